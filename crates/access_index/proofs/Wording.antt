@@ -1,13 +1,13 @@
 -- The words of the banks' best orders, and the least of them.
 use Rattle.std.specs.Option.{IfSome}
-use Rattle.std.proofs.Common.{ℕ, ◌≡◌, ◌≢◌, ◌+◌, ◌-◌, ◌*◌, ◌/◌, ◌%◌, ◌≤◌, ◌<◌, ◌^◌, ◌⊎◌, Bool, if◌then◌else◌, max, min, List, length, map, get_or, replicate, unwrap_or, Option, Some, None, inl, inr, ap, sym, subst, ◌∙◌, arith, eq-eqb}
+use Rattle.std.proofs.Common.{ℕ, zero, suc, ◌≡◌, ◌≢◌, ◌+◌, ◌-◌, ◌*◌, ◌/◌, ◌%◌, ◌≤◌, ◌<◌, ◌^◌, ◌⊎◌, Bool, if◌then◌else◌, max, min, List, ◌∷◌, length, map, get_or, replicate, take, unwrap_or, Option, Some, None, inl, inr, refl, ap, sym, subst, ◌∙◌, arith, eq-eqb}
 use Rattle.std.proofs.Math.ListN.{set}
 use Rattle.std.proofs.lemmas.Bool.{cases_eq, cases_lt, ne_eqb}
 use Rattle.std.proofs.lemmas.Option.{none-some}
-use Rattle.std.proofs.lemmas.List.{get_or-map, get_or-replicate, get_or-set_other, get_or-set_same, length-replicate, length-set}
+use Rattle.std.proofs.lemmas.List.{get_or-map, get_or-replicate, get_or-set_other, get_or-set_same, get_or-take, get_or_past, length-map, length-replicate, length-set, length-take}
 use Rattle.access_index.specs.declared.words.Head.{Head}
-use Rattle.access_index.specs.Heads.{IsBestWithin, IsHead, IsUpTo, head_word, word_of}
-use Rattle.access_index.specs.inside.Words.{AreWords, IsLeastOf, head_of}
+use Rattle.access_index.specs.Heads.{IsBestWithin, IsHead, IsUpTo, head_word, word_beyond, word_of}
+use Rattle.access_index.specs.inside.Words.{AreFilled, AreWords, IsLeastOf, head_of}
 
 -- one word more
 pub least_more : (words : List ℕ) (from k least word new : ℕ) → word ≡ get_or words (from + k) 0 → new ≡ min least word → IsLeastOf words from k least → IsLeastOf words from (k + 1) new
@@ -25,48 +25,19 @@ least_more words from k least word new here lesser was = record {
   ];
 }
 
-pub none_yet : AreWords (replicate 64 (2 ^ 64 - 1)) (replicate 8 (2 ^ 64 - 1)) 0
-none_yet = record {
-  count = length-replicate 64 (2 ^ 64 - 1);
-  group_count = length-replicate 8 (2 ^ 64 - 1);
-  own = λ bank small some. absurd (some (get_or-replicate 64 bank (2 ^ 64 - 1) 0 small));
-  most = λ bank small. omega (arith, get_or-replicate 64 bank (2 ^ 64 - 1) 0 small);
-  least = λ group few. record {
-    first = λ at small. omega (arith, get_or-replicate 8 group (2 ^ 64 - 1) 0 few, get_or-replicate 64 (group * 8 + at) (2 ^ 64 - 1) 0 (omega (arith, few, small)));
-    there = λ some. absurd (some (get_or-replicate 8 group (2 ^ 64 - 1) 0 few));
+pub none_yet : (banks eights : ℕ) → banks ≤ 64 → eights * 8 ≡ banks → AreWords banks eights (replicate banks (2 ^ 64 - 1)) (replicate eights (2 ^ 64 - 1))
+none_yet banks eights small whole = record {
+  few = small;
+  whole = whole;
+  count = length-replicate banks (2 ^ 64 - 1);
+  group_count = length-replicate eights (2 ^ 64 - 1);
+  own = λ bank within some. absurd (some (get_or-replicate banks bank (2 ^ 64 - 1) 0 within));
+  most = λ bank within. omega (arith, get_or-replicate banks bank (2 ^ 64 - 1) 0 within);
+  least = λ group within. record {
+    first = λ at below. omega (arith, get_or-replicate eights group (2 ^ 64 - 1) 0 within, get_or-replicate banks (group * 8 + at) (2 ^ 64 - 1) 0 (omega (arith, within, below, whole)));
+    there = λ some. absurd (some (get_or-replicate eights group (2 ^ 64 - 1) 0 within));
   };
-  few = omega arith;
-  empty = λ group few _. get_or-replicate 8 group (2 ^ 64 - 1) 0 few;
 }
-
--- the least word of so many groups, behind which none has an order, is the least of all groups
-least_groups : (words groups : List ℕ) (filled count least : ℕ) → AreWords words groups filled → filled ≤ count → count ≤ 8 → least < 2 ^ 64 → IsLeastOf groups 0 count least → IsLeastOf groups 0 8 least
-least_groups words groups filled count least are upto most fits is = record {
-  first = λ at small. elim (cases_lt at count) [
-    | inl below ↦ is.first at below
-    | inr past ↦
-        let same : 0 + at ≡ at = omega arith in
-        omega (arith, fits, are.empty at small (omega (arith, past, upto)), ap (λ (n : ℕ). get_or groups n 0) same)
-  ];
-  there = λ some. let it = is.there some in (it.0, omega (arith, it.1, most), it.2);
-}
-
--- and this is the least of all words
-pub least_all : (words groups : List ℕ) (filled count least : ℕ) → AreWords words groups filled → filled ≤ count → count ≤ 8 → least < 2 ^ 64 → IsLeastOf groups 0 count least → IsLeastOf words 0 64 least
-least_all words groups filled count least are upto most fits lowest = let is = least_groups words groups filled count least are upto most fits lowest in record {
-  first = λ at small.
-      let group : at / 8 < 8 = omega (arith, small) in
-      let same : at / 8 * 8 + at % 8 ≡ 0 + at = omega arith in
-      omega (arith, is.first (at / 8) group, ap (λ (n : ℕ). get_or groups n 0) (zero_more (at / 8)), (are.least (at / 8) group).first (at % 8) (omega arith), ap (λ (n : ℕ). get_or words n 0) same);
-  there = λ some.
-      let it = is.there some in
-      let group : get_or groups it.0 0 ≡ least = ap (λ (n : ℕ). get_or groups n 0) (sym (zero_more it.0)) ∙ it.2 in
-      let one = (are.least it.0 it.1).there (λ none. some (sym group ∙ none)) in
-      (it.0 * 8 + one.0, omega (arith, it.1, one.1), ap (λ (n : ℕ). get_or words n 0) (zero_more (it.0 * 8 + one.0)) ∙ one.2 ∙ group);
-}
-  where
-    zero_more : (n : ℕ) → 0 + n ≡ n
-    zero_more n = omega arith
 
 -- a word tells the order that it was made of
 pub head_of-word : (head : Head) (bank : ℕ) → IsHead head → bank < 64 → head_of (word_of head bank) ≡ Some head
@@ -77,9 +48,12 @@ head_of-word head bank is small =
     ap (λ (b : Bool). if b then None else Some (record { rank = word / 2 ^ 34; place = word / 64 % 2 ^ 28 })) (ne_eqb word (2 ^ 64 - 1) (λ e. omega (arith, e, is.rank, is.place, small)))
     ∙ (λ j. Some (record { rank = rank j; place = place j }))
 
-pub read_head : (words : List ℕ) (heads : List (Option Head)) (bank : ℕ) → length words ≡ 64 → map head_of words ≡ heads → bank < 64 → get_or heads bank None ≡ head_of (get_or words bank 0)
-read_head words heads bank long seen small =
-    ap (λ (hs : List (Option Head)). get_or hs bank None) (sym seen) ∙ get_or-map head_of words bank 0 None (omega (arith, small, long))
+pub read_head : (words : List ℕ) (heads : List (Option Head)) (bank : ℕ) → map head_of words ≡ heads → bank < length words → get_or heads bank None ≡ head_of (get_or words bank 0)
+read_head words heads bank seen within =
+    ap (λ (hs : List (Option Head)). get_or hs bank None) (sym seen) ∙ get_or-map head_of words bank 0 None within
+
+pub heads_count : (words : List ℕ) (heads : List (Option Head)) → map head_of words ≡ heads → length heads ≡ length words
+heads_count words heads seen = ap (λ (hs : List (Option Head)). length hs) (sym seen) ∙ length-map words head_of
 
 -- the lower a word, the better its order
 up_to : (a b : ℕ) → a ≤ b → (a / 2 ^ 34 < b / 2 ^ 34) ⊎ ((a / 2 ^ 34 ≡ b / 2 ^ 34) × (a / 64 % 2 ^ 28 ≤ b / 64 % 2 ^ 28))
@@ -95,47 +69,98 @@ none_of word is = ap (λ (b : Bool). if b then None else Some (record { rank = w
 some_of : (word : ℕ) → word ≢ 2 ^ 64 - 1 → head_of word ≡ Some (record { rank = word / 2 ^ 34; place = word / 64 % 2 ^ 28 })
 some_of word some = ap (λ (b : Bool). if b then None else Some (record { rank = word / 2 ^ 34; place = word / 64 % 2 ^ 28 })) (ne_eqb word (2 ^ 64 - 1) some)
 
+no_word : (word : ℕ) → head_of word ≡ None → word ≡ 2 ^ 64 - 1
+no_word word none = elim (cases_eq word (2 ^ 64 - 1)) [
+  | inl is ↦ is
+  | inr some ↦ absurd (none-some (record { rank = word / 2 ^ 34; place = word / 64 % 2 ^ 28 }) (sym none ∙ some_of word some))
+]
+
+zero_more : (n : ℕ) → 0 + n ≡ n
+zero_more n = omega arith
+
+-- Behind so many groups no bank has an order.
+module _ (banks eights : ℕ) (words groups : List ℕ) (heads : List (Option Head)) (count least : ℕ) (are : AreWords banks eights words groups) (seen : map head_of words ≡ heads)
+    (empty : count < eights → (bank : ℕ) → count * 8 ≤ bank → get_or heads bank None ≡ None) (upto : count ≤ eights) (fits : least < 2 ^ 64) (is : IsLeastOf groups 0 count least) where
+  group_empty : (group : ℕ) → group < eights → count ≤ group → get_or groups group 0 ≡ 2 ^ 64 - 1
+  group_empty group within past = elim (cases_eq (get_or groups group 0) (2 ^ 64 - 1)) [
+    | inl none ↦ none
+    | inr some ↦
+        let it = (are.least group within).there some in
+        let bank : ℕ = group * 8 + it.0 in
+        let in_words : bank < length words = omega (arith, are.count, are.whole, within, it.1) in
+        absurd (some (sym it.2 ∙ no_word (get_or words bank 0) (sym (read_head words heads bank seen in_words) ∙ empty (omega (arith, within, past)) bank (omega (arith, past)))))
+  ]
+
+  -- the least word of these groups is the least of all groups
+  least_groups : IsLeastOf groups 0 eights least
+  least_groups = record {
+    first = λ at within. elim (cases_lt at count) [
+      | inl below ↦ is.first at below
+      | inr past ↦ omega (arith, fits, group_empty at within past, ap (λ (n : ℕ). get_or groups n 0) (zero_more at))
+    ];
+    there = λ some. let it = is.there some in (it.0, omega (arith, it.1, upto), it.2);
+  }
+
+  -- and this is the least of all words
+  pub least_all : IsLeastOf words 0 banks least
+  least_all = record {
+    first = λ at within.
+        let group : at / 8 < eights = omega (arith, within, are.whole) in
+        let same : at / 8 * 8 + at % 8 ≡ 0 + at = omega arith in
+        omega (arith, least_groups.first (at / 8) group, ap (λ (n : ℕ). get_or groups n 0) (zero_more (at / 8)), (are.least (at / 8) group).first (at % 8) (omega arith), ap (λ (n : ℕ). get_or words n 0) same);
+    there = λ some.
+        let it = least_groups.there some in
+        let group : get_or groups it.0 0 ≡ least = ap (λ (n : ℕ). get_or groups n 0) (sym (zero_more it.0)) ∙ it.2 in
+        let one = (are.least it.0 it.1).there (λ none. some (sym group ∙ none)) in
+        (it.0 * 8 + one.0, omega (arith, it.1, one.1, are.whole), ap (λ (n : ℕ). get_or words n 0) (zero_more (it.0 * 8 + one.0)) ∙ one.2 ∙ group);
+  }
+
 -- the least word of all has the best order of all, where its rank is low enough
-module _ (words : List ℕ) (heads : List (Option Head)) (least most : ℕ) (long : length words ≡ 64) (seen : map head_of words ≡ heads) (is : IsLeastOf words 0 64 least) where
-  least_here : (bank : ℕ) → bank < 64 → least ≤ get_or words bank 0
-  least_here bank small = omega (arith, is.first bank small, ap (λ (n : ℕ). get_or words n 0) (zero_more bank))
-    where
-      zero_more : (n : ℕ) → 0 + n ≡ n
-      zero_more n = omega arith
+module _ (banks : ℕ) (words : List ℕ) (heads : List (Option Head)) (least most : ℕ) (long : length words ≡ banks) (seen : map head_of words ≡ heads) (is : IsLeastOf words 0 banks least) where
+  least_here : (bank : ℕ) → bank < banks → least ≤ get_or words bank 0
+  least_here bank within = omega (arith, is.first bank within, ap (λ (n : ℕ). get_or words n 0) (zero_more bank))
 
-  pub none_within : most < least / 2 ^ 34 → (bank : ℕ) → bank < 64 → IfSome (get_or heads bank None) (λ (head : Head). most < head.rank)
-  none_within above bank small =
-      let w : ℕ = get_or words bank 0 in
-      let here : get_or heads bank None ≡ head_of w = read_head words heads bank long seen small in
-      elim (cases_eq w (2 ^ 64 - 1)) [
-        | inl none ↦ subst (λ (o : Option Head). IfSome o (λ (head : Head). most < head.rank)) (sym (here ∙ none_of w none)) tt
-        | inr some ↦
-            subst (λ (o : Option Head). IfSome o (λ (head : Head). most < head.rank)) (sym (here ∙ some_of w some)) (omega (arith, above, least_here bank small))
-      ]
+  pub none_within : word_beyond most ≤ least → (bank : ℕ) → IfSome (get_or heads bank None) (λ (head : Head). most < head.rank)
+  none_within above bank = elim (cases_lt bank banks) [
+    | inl within ↦
+        let w : ℕ = get_or words bank 0 in
+        let here : get_or heads bank None ≡ head_of w = read_head words heads bank seen (omega (arith, within, long)) in
+        elim (cases_eq w (2 ^ 64 - 1)) [
+          | inl none ↦ subst (λ (o : Option Head). IfSome o (λ (head : Head). most < head.rank)) (sym (here ∙ none_of w none)) tt
+          | inr some ↦
+              subst (λ (o : Option Head). IfSome o (λ (head : Head). most < head.rank)) (sym (here ∙ some_of w some)) (omega (arith, above, least_here bank within))
+        ]
+    | inr past ↦
+        subst (λ (o : Option Head). IfSome o (λ (head : Head). most < head.rank)) (sym (get_or_past heads bank None (omega (arith, past, long, heads_count words heads seen)))) tt
+  ]
 
-  pub best_within : (groups : List ℕ) (filled bank : ℕ) → AreWords words groups filled → most ≤ 10 ^ 9 → least / 2 ^ 34 ≤ most → bank ≡ least % 64 → IsBestWithin heads most bank
-  best_within groups filled bank are fits low bank_is =
+  pub best_within : (eights bank : ℕ) (groups : List ℕ) → AreWords banks eights words groups → word_beyond most < 2 ^ 64 → least < word_beyond most → bank ≡ least % 64 → IsBestWithin heads most bank
+  best_within eights bank groups are fits low bank_is =
       let some : least ≢ 2 ^ 64 - 1 = λ none. omega (arith, fits, low, none) in
       let it = is.there some in
       let at : get_or words it.0 0 ≡ least = ap (λ (n : ℕ). get_or words n 0) (omega arith) ∙ it.2 in
       let own : least % 64 ≡ it.0 = ap (λ (w : ℕ). w % 64) (sym at) ∙ are.own it.0 it.1 (λ none. some (sym at ∙ none)) in
       subst (IsBestWithin heads most) (sym own ∙ sym bank_is) (record {
-        within = it.1;
+        within = omega (arith, it.1, long, heads_count words heads seen);
         head = record { rank = least / 2 ^ 34; place = least / 64 % 2 ^ 28 };
-        there = read_head words heads it.0 long seen it.1 ∙ ap head_of at ∙ some_of least some;
-        low = low;
+        there = read_head words heads it.0 seen (omega (arith, it.1, long)) ∙ ap head_of at ∙ some_of least some;
+        low = omega (arith, low);
         first = first_of;
       })
     where
-      first_of : (other : ℕ) (found : Head) → other < 64 → get_or heads other None ≡ Some found → IsUpTo (record { rank = least / 2 ^ 34; place = least / 64 % 2 ^ 28 }) found
-      first_of other found small has =
-          let w : ℕ = get_or words other 0 in
-          elim (cases_eq w (2 ^ 64 - 1)) [
-            | inl none ↦ absurd (none-some found (sym (none_of w none) ∙ sym (read_head words heads other long seen small) ∙ has))
-            | inr full ↦
-                let head : record { rank = w / 2 ^ 34; place = w / 64 % 2 ^ 28 } ≡ found = ap (λ (o : Option Head). unwrap_or o found) (sym (some_of w full) ∙ sym (read_head words heads other long seen small) ∙ has) in
-                subst (IsUpTo (record { rank = least / 2 ^ 34; place = least / 64 % 2 ^ 28 })) head (up_to least w (least_here other small))
-          ]
+      first_of : (other : ℕ) (found : Head) → get_or heads other None ≡ Some found → IsUpTo (record { rank = least / 2 ^ 34; place = least / 64 % 2 ^ 28 }) found
+      first_of other found has = elim (cases_lt other banks) [
+        | inl within ↦
+            let w : ℕ = get_or words other 0 in
+            let here : get_or heads other None ≡ head_of w = read_head words heads other seen (omega (arith, within, long)) in
+            elim (cases_eq w (2 ^ 64 - 1)) [
+              | inl none ↦ absurd (none-some found (sym (none_of w none) ∙ sym here ∙ has))
+              | inr full ↦
+                  let head : record { rank = w / 2 ^ 34; place = w / 64 % 2 ^ 28 } ≡ found = ap (λ (o : Option Head). unwrap_or o found) (sym (some_of w full) ∙ sym here ∙ has) in
+                  subst (IsUpTo (record { rank = least / 2 ^ 34; place = least / 64 % 2 ^ 28 })) head (up_to least w (least_here other within))
+            ]
+        | inr past ↦ absurd (none-some found (sym (get_or_past heads other None (omega (arith, past, long, heads_count words heads seen))) ∙ has))
+      ]
 
 -- a word outside of a group is another one
 least_kept : (words : List ℕ) (at word from least : ℕ) → ((k : ℕ) → k < 8 → from + k ≢ at) → IsLeastOf words from 8 least → IsLeastOf (set words at word) from 8 least
@@ -145,9 +170,11 @@ least_kept words at word from least apart was = record {
 }
 
 -- a word is written at its bank, and the least of its group beside it
-pub words_set : (words groups : List ℕ) (filled filled' at bank word group least : ℕ) → at ≡ bank → bank < 64 → AreWords words groups filled → filled' ≡ max filled (group + 1) → (word ≢ 2 ^ 64 - 1 → word % 64 ≡ bank) → word < 2 ^ 64
-    → group ≡ at / 8 → IsLeastOf (set words at word) (group * 8) 8 least → AreWords (set words at word) (set groups group least) filled'
-words_set words groups filled filled' at bank word group least same few are more own fits group_is is = record {
+pub words_set : (banks eights : ℕ) (words groups : List ℕ) (at bank word group least : ℕ) → at ≡ bank → bank < banks → AreWords banks eights words groups → (word ≢ 2 ^ 64 - 1 → word % 64 ≡ bank) → word < 2 ^ 64
+    → group ≡ at / 8 → IsLeastOf (set words at word) (group * 8) 8 least → AreWords banks eights (set words at word) (set groups group least)
+words_set banks eights words groups at bank word group least same within are own fits group_is is = record {
+  few = are.few;
+  whole = are.whole;
   count = length-set words at word ∙ are.count;
   group_count = length-set groups group least ∙ are.group_count;
   own = λ other small some. elim (cases_eq other at) [
@@ -170,21 +197,67 @@ words_set words groups filled filled' at bank word group least same few are more
         subst (IsLeastOf (set words at word) (other * 8) 8) (sym (get_or-set_other groups group other least 0 differ))
         (least_kept words at word (other * 8) (get_or groups other 0) (λ k below here. omega (arith, differ, group_is, below, here)) (are.least other small))
   ];
-  few = omega (arith, more, are.few, group_is, same, few);
-  empty = λ other small past.
-      get_or-set_other groups group other least 0 (λ here. omega (arith, here, past, more)) ∙ are.empty other small (omega (arith, past, more));
+}
+
+-- no bank has an order
+pub map-none : (banks : ℕ) → map head_of (replicate banks (2 ^ 64 - 1)) ≡ replicate banks None
+map-none zero = refl
+map-none (suc banks) = ap (λ (heads : List (Option Head)). head_of (2 ^ 64 - 1) ∷ heads) (map-none banks) ∙ ap (λ (head : Option Head). head ∷ replicate banks None) (none_of (2 ^ 64 - 1) refl)
+
+pub none_filled : AreFilled (replicate 64 None) 0
+none_filled = record {
+  few = omega arith;
+  empty = λ bank _. elim (cases_lt bank 64) [
+    | inl small ↦ get_or-replicate 64 bank None None small
+    | inr past ↦ get_or_past (replicate 64 None) bank None (omega (arith, past, length-replicate 64 none))
+  ];
+}
+  where
+    none : Option Head
+    none = None
+
+-- so many groups have had an order once a bank has another one
+pub filled_set : (heads : List (Option Head)) (filled filled' at bank : ℕ) (head : Option Head) → AreFilled heads filled → at ≡ bank → bank < 64 → filled' ≡ max filled (at / 8 + 1) → AreFilled (set heads bank head) filled'
+filled_set heads filled filled' at bank head are same small more = record {
+  few = omega (arith, more, are.few, same, small);
+  empty = λ other past.
+      get_or-set_other heads bank other head None (λ here. omega (arith, here, past, more, same)) ∙ are.empty other (omega (arith, past, more));
 }
 
 pub own_word : (head : Head) (bank : ℕ) → bank < 64 → word_of head bank % 64 ≡ bank
 own_word head bank small = omega (arith, small)
 
 -- a word is that of the order which it tells
-pub word_told : (words groups : List ℕ) (filled : ℕ) (heads : List (Option Head)) (bank : ℕ) → length words ≡ 64 → map head_of words ≡ heads → AreWords words groups filled → bank < 64
+pub word_told : (banks eights : ℕ) (words groups : List ℕ) (heads : List (Option Head)) (bank : ℕ) → map head_of words ≡ heads → AreWords banks eights words groups → bank < banks
     → get_or words bank 0 ≡ head_word bank (get_or heads bank None)
-word_told words groups filled heads bank long seen are small =
+word_told banks eights words groups heads bank seen are small =
     let w : ℕ = get_or words bank 0 in
+    let here : get_or heads bank None ≡ head_of w = read_head words heads bank seen (omega (arith, small, are.count)) in
     elim (cases_eq w (2 ^ 64 - 1)) [
-      | inl none ↦ none ∙ sym (ap (head_word bank) (read_head words heads bank long seen small ∙ none_of w none))
-      | inr some ↦
-          omega (arith, are.own bank small some) ∙ sym (ap (head_word bank) (read_head words heads bank long seen small ∙ some_of w some))
+      | inl none ↦ none ∙ sym (ap (head_word bank) (here ∙ none_of w none))
+      | inr some ↦ omega (arith, are.own bank small some) ∙ sym (ap (head_word bank) (here ∙ some_of w some))
     ]
+
+-- The words of the first banks.
+
+-- a word among the first ones is the same
+pub least_first : (words : List ℕ) (banks from least : ℕ) → from + 8 ≤ banks → IsLeastOf words from 8 least → IsLeastOf (take banks words) from 8 least
+least_first words banks from least within is = record {
+  first = λ at small. omega (arith, is.first at small, get_or-take banks words (from + at) 0 (omega (arith, within, small)));
+  there = λ some. let it = is.there some in (it.0, it.1, get_or-take banks words (from + it.0) 0 (omega (arith, within, it.1)) ∙ it.2);
+}
+
+pub words_first : (banks eights more more_eights : ℕ) (words groups : List ℕ) → banks ≤ more → eights * 8 ≡ banks → AreWords more more_eights words groups → AreWords banks eights (take banks words) (take eights groups)
+words_first banks eights more more_eights words groups upto whole are = record {
+  few = omega (arith, upto, are.few);
+  whole = whole;
+  count = length-take banks words ∙ omega (arith, upto, are.count);
+  group_count = length-take eights groups ∙ omega (arith, upto, whole, are.whole, are.group_count);
+  own = λ bank small some.
+      let same : get_or (take banks words) bank 0 ≡ get_or words bank 0 = get_or-take banks words bank 0 small in
+      ap (λ (w : ℕ). w % 64) same ∙ are.own bank (omega (arith, small, upto)) (λ none. some (same ∙ none));
+  most = λ bank small. omega (arith, get_or-take banks words bank 0 small, are.most bank (omega (arith, small, upto)));
+  least = λ group small.
+      subst (IsLeastOf (take banks words) (group * 8) 8) (sym (get_or-take eights groups group 0 small))
+      (least_first words banks (group * 8) (get_or groups group 0) (omega (arith, small, whole)) (are.least group (omega (arith, small, whole, upto, are.whole))));
+}

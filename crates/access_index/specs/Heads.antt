@@ -1,5 +1,5 @@
 -- The best order of each owner of one side, and the best of these.
-use Rattle.std.specs.Prelude.{ℕ, ◌≡◌, ◌+◌, ◌-◌, ◌*◌, ◌≤◌, ◌<◌, ◌^◌, ◌⊎◌, List, Option, Some, None, slice_index_or}
+use Rattle.std.specs.Prelude.{ℕ, ◌≡◌, ◌+◌, ◌-◌, ◌*◌, ◌≤◌, ◌<◌, ◌^◌, ◌⊎◌, List, length, Option, Some, None, slice_index_or}
 use Rattle.access_index.specs.declared.words.Head.{Head}
 
 -- a rank that a price can have, and a place that a word has bits for
@@ -16,14 +16,18 @@ abbrev pub head_word : ℕ → Option Head → ℕ
 head_word bank None = 2 ^ 64 - 1
 head_word bank (Some head) = word_of head bank
 
+-- the least number that is above the words of all orders at up to a rank
+abbrev pub word_beyond : ℕ → ℕ
+word_beyond most = (most + 1) * 2 ^ 34
+
 -- one is as good as another at least: its rank is lower, or the same and its place is not behind the other's
 abbrev pub IsUpTo : Head → Head → Type 0
 IsUpTo head other = (head.rank < other.rank) ⊎ ((head.rank ≡ other.rank) × (head.place ≤ other.place))
 
 -- a bank's best order has a rank that is at most so high, and no other bank's is better
 pub record IsBestWithin (heads : List (Option Head)) (most bank : ℕ) : Type 0 where
-  pub within : bank < 64
+  pub within : bank < length heads
   pub head : Head
   pub there : slice_index_or heads bank None ≡ Some head
   pub low : head.rank ≤ most
-  pub first : (other : ℕ) (found : Head) → other < 64 → slice_index_or heads other None ≡ Some found → IsUpTo head found
+  pub first : (other : ℕ) (found : Head) → slice_index_or heads other None ≡ Some found → IsUpTo head found

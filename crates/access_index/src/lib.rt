@@ -5,4 +5,4 @@ mod ranked;
 mod words;
 
 pub use ranked::RankedOwners;
-pub use words::{Head, HeadWords};
+pub use words::{FirstHeads, Head, HeadWords, word_beyond};

@@ -1,8 +1,8 @@
 -- The heads of a walk along a side: what a word tells of the list of the orders, the best of the heads, and the next head of a bank.
-use Rattle.std.proofs.Common.{ℕ, zero, suc, ◌≡◌, ◌≤◌, ◌<◌, ◌^◌, true, false, Bool, not, ◌&&◌, leb, ltb, List, [], ◌∷◌, length, map, Option, Some, None, get_or, inl, inr, refl, ap, sym, subst, ◌∙◌, arith}
+use Rattle.std.proofs.Common.{ℕ, zero, suc, ◌≡◌, ◌≢◌, ◌≤◌, ◌<◌, ◌^◌, min, true, false, Bool, not, ◌&&◌, leb, ltb, List, [], ◌∷◌, length, map, take, Option, Some, None, get_or, inl, inr, refl, ap, sym, subst, ◌∙◌, arith}
 use Rattle.std.proofs.Math.ListN.{set}
-use Rattle.std.proofs.lemmas.Bool.{and_from, and_parts, both_ways, cases_eq, cases_lt, eq-eqb, eqb-true, false_from_ne_true, le-leb, lt-leb, lt-ltb}
-use Rattle.std.proofs.lemmas.List.{get_or-set_other, get_or-set_same, length-map, length-set, map-set}
+use Rattle.std.proofs.lemmas.Bool.{and_from, and_parts, both_ways, cases_eq, cases_lt, eq-eqb, eqb-true, false_from_ne_true, le-leb, lt-leb, lt-ltb, ne_eqb}
+use Rattle.std.proofs.lemmas.List.{get_or-set_other, get_or-set_same, get_or-take, get_or_past, length-map, length-set, length-take-le, map-set}
 use Rattle.std.specs.Option.{IfSome, IsSome, option_map}
 use Rattle.fx_amounts.specs.Price.{crosses}
 use Rattle.fx_amounts.specs.Side.{opposite}
@@ -10,11 +10,12 @@ use Rattle.fx_amounts.specs.declared.side.Side.{Side}
 use Rattle.fx_amounts.specs.declared.side.Side.TheVariants.{Buy, Sell}
 use Rattle.fx_rules.specs.declared.orders.Resting.{Resting}
 use Rattle.fx_rules.specs.Lists.{Among, Each}
+use Rattle.fx_rules.specs.Plan.{is_behind}
 use Rattle.fx_rules.specs.Sweep.{is_opposite, is_preferred}
 use Rattle.fx_rules.proofs.ListLemmas.{Each-among, Among-filter, among_filter}
 use Rattle.fx_rules.proofs.Preference.{preferred_trans}
 use Rattle.access_index.specs.declared.words.Head.{Head}
-use Rattle.access_index.specs.Heads.{IsBestWithin, IsHead, IsUpTo}
+use Rattle.access_index.specs.Heads.{IsBestWithin, IsHead, IsUpTo, word_beyond}
 use Rattle.access_index.specs.Ranked.{IsHeadOf, bank_level}
 use Rattle.order_store.specs.Linked.{AreListed}
 use Rattle.global_book.specs.Behind.{is_owned_behind, owned_behind}
@@ -22,7 +23,7 @@ use Rattle.global_book.specs.Book.{Book, RestsWithin, is_of}
 use Rattle.global_book.specs.Heads.{Heads, IsBegun, IsLeast, IsNext, PassesHead, count_to_come, head_in, is_from_head, is_to_come, with_head}
 use Rattle.global_book.specs.Room.{ladders_of, rank_of}
 use Rattle.global_book.specs.inside.Bests.{IsBestAt, IsBestOf, is_own_behind, is_own_from, is_past}
-use Rattle.global_book.specs.inside.Heads.{TellHeads, TellsOrder, order_told}
+use Rattle.global_book.specs.inside.Heads.{TellHeads, TellsLimit, TellsOrder, limit_told, order_told}
 use Rattle.global_book.specs.inside.Linked.{AreKept, AreLinked, Linked, orders_in}
 use Rattle.global_book.specs.inside.Owning.{is_own}
 use Rattle.global_book.proofs.Behind.{best-past, none-past, past-none, past-some}
@@ -45,8 +46,8 @@ told-at slots (word ∷ words) zero = refl
 told-at slots (word ∷ words) (suc bank) = told-at slots words bank
 
 -- the heads that words tell
-abbrev pub heads_told : Linked → Side → List (Option Head) → Heads
-heads_told linked side words = record { side = side; orders = orders_in linked; next = map (order_told linked.orders.slots) words }
+abbrev pub heads_told : Linked → Side → ℕ → List (Option Head) → Heads
+heads_told linked side limit words = record { side = side; limit = limit; orders = orders_in linked; next = map (order_told linked.orders.slots) words }
 
 -- Ranks and limits.
 
@@ -57,6 +58,16 @@ limit-rank Sell limit price most most' upto = le-leb price limit upto
 pub dear-rank : (side : Side) (limit price : ℕ) → limit ≤ 10 ^ 9 → price ≤ 10 ^ 9 → rank_of side limit < rank_of side price → crosses (opposite side) limit price ≡ false
 dear-rank Buy limit price most most' above = lt-leb limit price (omega (arith, most, most', above))
 dear-rank Sell limit price most most' above = lt-leb price limit above
+
+-- a limit stands in a word
+pub limit-is : (side : Side) (limit : ℕ) → limit ≤ 10 ^ 9 → limit_told side (word_beyond (rank_of side limit)) ≡ limit
+limit-is Buy limit most = omega (arith, most)
+limit-is Sell limit most = omega (arith, most)
+
+pub tells-limit : (side : Side) (limit beyond : ℕ) → limit ≤ 10 ^ 9 → beyond ≡ word_beyond (rank_of side limit) → TellsLimit side beyond
+tells-limit side limit beyond most is =
+    let same : limit_told side beyond ≡ limit = ap (limit_told side) is ∙ limit-is side limit most in
+    record { most = omega (arith, same, most); is = is ∙ ap (λ (price : ℕ). word_beyond (rank_of side price)) (sym same) }
 
 -- the best order of a bank is at its head's place
 pub head-best : (linked : Linked) (side : Side) → AreLinked linked.orders.slots linked.ladders → AreListed linked.orders → (bank : ℕ) (head : Option Head)
@@ -87,23 +98,33 @@ module _ (banks : ℕ) (linked : Linked) (side : Side) (kept : AreKept banks lin
 
   -- the best orders are told
   pub heads-tell : (words : List (Option Head)) → length words ≡ 64
-      → ((bank : ℕ) → bank < 64 → IsHeadOf (bank_level (ladders_of linked.ladders side) bank) (get_or words bank None) × IfSome (get_or words bank None) IsHead) → TellHeads linked side words
+      → ((bank : ℕ) → bank < 64 → IsHeadOf (bank_level (ladders_of linked.ladders side) bank) (get_or words bank None) × IfSome (get_or words bank None) IsHead) → TellHeads 64 linked side words
   heads-tell words count are = record {
     banks = banks;
     kept = kept;
     priced = ladders.priced;
-    count = count;
+    long = count;
     tells = λ bank. elim (cases_lt bank 64) [
       | inl small ↦ tells-best bank (get_or words bank None) (are bank small).0 (are bank small).1
-      | inr past ↦ subst (λ (h : Option Head). IfSome h (TellsOrder linked.orders.slots side bank)) (sym (past-end words bank (omega (arith, count, past)))) tt
+      | inr past ↦ subst (λ (h : Option Head). IfSome h (TellsOrder linked.orders.slots side bank)) (sym (get_or_past words bank None (omega (arith, count, past)))) tt
     ];
   }
-    where
-      past-end : (words : List (Option Head)) (bank : ℕ) → length words ≤ bank → get_or words bank None ≡ None
-      past-end [] zero past = refl
-      past-end [] (suc bank) past = refl
-      past-end (word ∷ words) zero past = absurd (omega (arith, past))
-      past-end (word ∷ words) (suc bank) past = past-end words bank (omega (arith, past))
+
+-- the best orders of the first banks alone are told
+pub told-first : (linked : Linked) (side : Side) (words : List (Option Head)) (count : ℕ) → count ≤ 64 → TellHeads 64 linked side words → TellHeads count linked side (take count words)
+told-first linked side words count few are = record {
+  banks = are.banks;
+  kept = are.kept;
+  priced = are.priced;
+  long = long;
+  tells = λ bank. elim (cases_lt bank count) [
+    | inl small ↦ subst (λ (h : Option Head). IfSome h (TellsOrder linked.orders.slots side bank)) (sym (get_or-take count words bank None small)) (are.tells bank)
+    | inr past ↦ subst (λ (h : Option Head). IfSome h (TellsOrder linked.orders.slots side bank)) (sym (get_or_past (take count words) bank None (omega (arith, long, past)))) tt
+  ];
+}
+  where
+    long : length (take count words) ≡ count
+    long = length-take-le count words (omega (arith, few, are.long))
 
 -- The next order of a bank, by its place.
 module _ (banks : ℕ) (linked : Linked) (side : Side) (kept : AreKept banks linked) where
@@ -119,10 +140,26 @@ module _ (banks : ℕ) (linked : Linked) (side : Side) (kept : AreKept banks lin
   next-best ladders bank head is =
       next-told bank None head (past-none linked.orders.slots bank side (option_map (λ (h : Head). h.place) head) (best-of banks linked side kept ladders bank head is))
 
+  -- and so it is where there are as many words as banks, since no other bank has an order
+  pub next-first : (ladders : AreLinked linked.orders.slots linked.ladders) (words : List (Option Head)) (count : ℕ) → length words ≡ 64 → count ≤ 64 → min banks 64 ≤ count
+      → ((bank : ℕ) → bank < 64 → IsHeadOf (bank_level (ladders_of linked.ladders side) bank) (get_or words bank None) × IfSome (get_or words bank None) IsHead)
+      → (bank : ℕ) → IsNext side bank None (orders_in linked) (order_told linked.orders.slots (get_or (take count words) bank None))
+  next-first ladders words count long few enough are bank = elim (cases_lt bank count) [
+    | inl small ↦
+        subst (λ (h : Option Head). IsNext side bank None (orders_in linked) (order_told linked.orders.slots h)) (sym (get_or-take count words bank None small))
+        (next-best ladders bank (get_or words bank None) (are bank (omega (arith, small, few))).0)
+    | inr past ↦
+        subst (λ (h : Option Head). IsNext side bank None (orders_in linked) (order_told linked.orders.slots h))
+        (sym (get_or_past (take count words) bank None (omega (arith, past, length-take-le count words (omega (arith, few, long))))))
+        (none-past banks linked bank side None kept (λ place order at.
+        let other : order.bank ≢ bank = λ same. omega (arith, same, past, enough, (ladders.priced place order at).bank, (kept.held place order at).bank) in
+        ap (λ (b : Bool). b && is_opposite (opposite side) order.side && is_behind (opposite side) None order) (ne_eqb order.bank bank other)))
+  ]
+
   -- where no head is within a limit, no order of the side is
   pub all-dear : (ladders : AreLinked linked.orders.slots linked.ladders) (words : List (Option Head)) (limit : ℕ)
       → ((bank : ℕ) → bank < 64 → IsHeadOf (bank_level (ladders_of linked.ladders side) bank) (get_or words bank None) × IfSome (get_or words bank None) IsHead)
-      → ((bank : ℕ) → IfSome (head_in (heads_told linked side words) bank) (λ (o : Resting). crosses (opposite side) limit o.price ≡ false))
+      → ((bank : ℕ) → IfSome (head_in (heads_told linked side limit words) bank) (λ (o : Resting). crosses (opposite side) limit o.price ≡ false))
       → Each (λ (o : Resting). o.side ≡ side → crosses (opposite side) limit o.price ≡ false) (orders_in linked)
   all-dear ladders words limit are dear =
       each-at (λ (o : Resting). o.side ≡ side → crosses (opposite side) limit o.price ≡ false) linked.orders.slots (λ place order at side_is.
@@ -154,19 +191,12 @@ if-told words slots bank one is = of (get_or words bank None) refl is
     of None seen is = absurd (cc)
     of (Some head) seen is = (head, seen, is)
 
-module _ (linked : Linked) (side : Side) (words : List (Option Head)) (are : TellHeads linked side words) where
+module _ (count : ℕ) (linked : Linked) (side : Side) (limit : ℕ) (words : List (Option Head)) (are : TellHeads count linked side words) where
   pub told : (bank : ℕ) (head : Head) → get_or words bank None ≡ Some head → TellsOrder linked.orders.slots side bank head
   told bank head is = subst (λ (h : Option Head). IfSome h (TellsOrder linked.orders.slots side bank)) is (are.tells bank)
 
-  pub head-told : (bank : ℕ) (head : Head) (is : get_or words bank None ≡ Some head) → head_in (heads_told linked side words) bank ≡ Some (told bank head is).order
+  pub head-told : (bank : ℕ) (head : Head) (is : get_or words bank None ≡ Some head) → head_in (heads_told linked side limit words) bank ≡ Some (told bank head is).order
   head-told bank head is = told-at linked.orders.slots words bank ∙ ap (order_told linked.orders.slots) is ∙ (told bank head is).is
-
-  -- an order's bank is one that has a word
-  within : (bank : ℕ) (head : Head) → get_or words bank None ≡ Some head → bank < 64
-  within bank head is =
-      let it : TellsOrder linked.orders.slots side bank head = told bank head is in
-      let owner : it.order.bank ≡ bank = eqb-true it.order.bank bank (and_parts (is_of bank it.order) (is_opposite (opposite side) it.order.side) it.own).0 in
-      omega (arith, owner, (are.priced head.place it.order it.is).bank)
 
   price-most : (bank : ℕ) (head : Head) (is : get_or words bank None ≡ Some head) → (told bank head is).order.price ≤ 10 ^ 9
   price-most bank head is = (are.priced head.place (told bank head is).order (told bank head is).is).price
@@ -193,12 +223,12 @@ module _ (linked : Linked) (side : Side) (words : List (Option Head)) (are : Tel
       ]
 
   -- the best head within the rank of a limit is the best that the limit allows
-  pub least-found : (limit : ℕ) (bank : Option ℕ) → limit ≤ 10 ^ 9 → IfSome bank (IsBestWithin words (rank_of side limit)) → IfSome bank (IsLeast (heads_told linked side words) limit)
-  least-found limit None most best = tt
-  least-found limit (Some bank) most best =
+  pub least-found : (bank : Option ℕ) → limit ≤ 10 ^ 9 → IfSome bank (IsBestWithin words (rank_of side limit)) → IfSome bank (IsLeast (heads_told linked side limit words))
+  least-found None most best = tt
+  least-found (Some bank) most best =
       let one = told bank best.head best.there in
       record {
-        within = best.within;
+        within = omega (arith, best.within, length-map words (order_told linked.orders.slots));
         head = one.order;
         is = head-told bank best.head best.there;
         allowed = limit-rank side limit one.order.price most (price-most bank best.head best.there) (omega (arith, one.rank, best.low));
@@ -206,12 +236,12 @@ module _ (linked : Linked) (side : Side) (words : List (Option Head)) (are : Tel
             let it = if-told words linked.orders.slots other two (sym (told-at linked.orders.slots words other) ∙ has) in
             let same : (told other it.0 it.1).order ≡ two = order_is linked.orders.slots it.0.place (told other it.0 it.1).order two (told other it.0 it.1).is it.2 in
             subst (λ (o : Resting). is_preferred (opposite side) o one.order ≡ false) same
-            (not-behind bank other best.head it.0 best.there it.1 (best.first other it.0 (within other it.0 it.1) it.1));
+            (not-behind bank other best.head it.0 best.there it.1 (best.first other it.0 it.1));
       }
 
   -- and it is an order of the side
-  pub least-rests : (limit bank : ℕ) → limit ≤ 10 ^ 9 → IsBestWithin words (rank_of side limit) bank → RestsWithin side limit (orders_in linked)
-  least-rests limit bank most best =
+  pub least-rests : (bank : ℕ) → limit ≤ 10 ^ 9 → IsBestWithin words (rank_of side limit) bank → RestsWithin side limit (orders_in linked)
+  least-rests bank most best =
       let one = told bank best.head best.there in
       record {
         order = one.order;
@@ -220,37 +250,37 @@ module _ (linked : Linked) (side : Side) (words : List (Option Head)) (are : Tel
         allowed = limit-rank side limit one.order.price most (price-most bank best.head best.there) (omega (arith, one.rank, best.low));
       }
 
-  if-head : (limit bank : ℕ) → ((head : Head) → (is : get_or words bank None ≡ Some head) → crosses (opposite side) limit (told bank head is).order.price ≡ false)
-      → IfSome (head_in (heads_told linked side words) bank) (λ (o : Resting). crosses (opposite side) limit o.price ≡ false)
-  if-head limit bank dear = of (get_or words bank None) refl
+  if-head : (bank : ℕ) → ((head : Head) → (is : get_or words bank None ≡ Some head) → crosses (opposite side) limit (told bank head is).order.price ≡ false)
+      → IfSome (head_in (heads_told linked side limit words) bank) (λ (o : Resting). crosses (opposite side) limit o.price ≡ false)
+  if-head bank dear = of (get_or words bank None) refl
     where
-      of : (word : Option Head) → get_or words bank None ≡ word → IfSome (head_in (heads_told linked side words) bank) (λ (o : Resting). crosses (opposite side) limit o.price ≡ false)
+      of : (word : Option Head) → get_or words bank None ≡ word → IfSome (head_in (heads_told linked side limit words) bank) (λ (o : Resting). crosses (opposite side) limit o.price ≡ false)
       of None is = subst (λ (o : Option Resting). IfSome o (λ (o : Resting). crosses (opposite side) limit o.price ≡ false)) (sym (told-at linked.orders.slots words bank ∙ ap (order_told linked.orders.slots) is)) tt
       of (Some head) is = subst (λ (o : Option Resting). IfSome o (λ (o : Resting). crosses (opposite side) limit o.price ≡ false)) (sym (head-told bank head is)) (dear head is)
 
   -- where all heads are behind the rank of a limit, it allows none
-  pub least-dear : (limit : ℕ) → limit ≤ 10 ^ 9 → ((bank : ℕ) → bank < 64 → IfSome (get_or words bank None) (λ (head : Head). rank_of side limit < head.rank))
-      → (bank : ℕ) → IfSome (head_in (heads_told linked side words) bank) (λ (o : Resting). crosses (opposite side) limit o.price ≡ false)
-  least-dear limit most above bank =
-      if-head limit bank (λ found is.
-      let behind : rank_of side limit < found.rank = subst (λ (h : Option Head). IfSome h (λ (head : Head). rank_of side limit < head.rank)) is (above bank (within bank found is)) in
+  pub least-dear : limit ≤ 10 ^ 9 → ((bank : ℕ) → IfSome (get_or words bank None) (λ (head : Head). rank_of side limit < head.rank))
+      → (bank : ℕ) → IfSome (head_in (heads_told linked side limit words) bank) (λ (o : Resting). crosses (opposite side) limit o.price ≡ false)
+  least-dear most above bank =
+      if-head bank (λ found is.
+      let behind : rank_of side limit < found.rank = subst (λ (h : Option Head). IfSome h (λ (head : Head). rank_of side limit < head.rank)) is (above bank) in
       dear-rank side limit (told bank found is).order.price most (price-most bank found is) (omega (arith, behind, (told bank found is).rank)))
 
   -- Another head of a bank.
 
-  pub head-set : (bank : ℕ) (word : Option Head) → heads_told linked side (set words bank word) ≡ with_head (heads_told linked side words) bank (order_told linked.orders.slots word)
-  head-set bank word = ap (λ (next : List (Option Resting)). record { side = side; orders = orders_in linked; next = next }) (map-set (order_told linked.orders.slots) words bank word)
+  pub head-set : (bank : ℕ) (word : Option Head) → heads_told linked side limit (set words bank word) ≡ with_head (heads_told linked side limit words) bank (order_told linked.orders.slots word)
+  head-set bank word = ap (λ (next : List (Option Resting)). record { side = side; limit = limit; orders = orders_in linked; next = next }) (map-set (order_told linked.orders.slots) words bank word)
 
-  pub told-set : (bank : ℕ) (word : Option Head) → bank < 64 → IfSome word (TellsOrder linked.orders.slots side bank) → TellHeads linked side (set words bank word)
+  pub told-set : (bank : ℕ) (word : Option Head) → bank < count → IfSome word (TellsOrder linked.orders.slots side bank) → TellHeads count linked side (set words bank word)
   told-set bank word small tells = record {
     banks = are.banks;
     kept = are.kept;
     priced = are.priced;
-    count = length-set words bank word ∙ are.count;
+    long = length-set words bank word ∙ are.long;
     tells = λ other. elim (cases_eq other bank) [
       | inl same ↦
           subst (λ (b : ℕ). IfSome (get_or (set words bank word) b None) (TellsOrder linked.orders.slots side b)) (sym same)
-          (subst (λ (h : Option Head). IfSome h (TellsOrder linked.orders.slots side bank)) (sym (get_or-set_same words bank word None (omega (arith, small, are.count)))) tells)
+          (subst (λ (h : Option Head). IfSome h (TellsOrder linked.orders.slots side bank)) (sym (get_or-set_same words bank word None (omega (arith, small, are.long)))) tells)
       | inr differ ↦ subst (λ (h : Option Head). IfSome h (TellsOrder linked.orders.slots side other)) (sym (get_or-set_other words bank other word None differ)) (are.tells other)
     ];
   }
@@ -259,7 +289,7 @@ module _ (linked : Linked) (side : Side) (words : List (Option Head)) (are : Tel
   pub told-behind : (bank : ℕ) (head : Head) (is : get_or words bank None ≡ Some head) (next : Option Head)
       → IfSome (get_or linked.orders.slots head.place None) (λ (order : Resting). IsBestOf linked.orders.slots (is_own_behind order) order.side (option_map (λ (h : Head). h.place) next))
       → IfSome next (λ (h : Head). IfSome (get_or linked.orders.slots h.place None) (λ (order : Resting). h.rank ≡ rank_of side order.price)) → IfSome next IsHead
-      → IfSome next (TellsOrder linked.orders.slots side bank) × IfSome (head_in (heads_told linked side words) bank) (λ (passed : Resting). IsNext side bank (Some passed) (orders_in linked) (order_told linked.orders.slots next))
+      → IfSome next (TellsOrder linked.orders.slots side bank) × IfSome (head_in (heads_told linked side limit words) bank) (λ (passed : Resting). IsNext side bank (Some passed) (orders_in linked) (order_told linked.orders.slots next))
   told-behind bank head is next behind rank fits =
       let it : TellsOrder linked.orders.slots side bank head = told bank head is in
       let parts = and_parts (is_of bank it.order) (is_opposite (opposite side) it.order.side) it.own in
@@ -343,44 +373,50 @@ fewer-to-come heads bank head next small there own is behind =
 
 -- The walk as callers see it, once a head is passed.
 
-module _ (linked : Linked) (side : Side) (words : List (Option Head)) (are : TellHeads linked side words) (bank : ℕ) where
+module _ (count : ℕ) (linked : Linked) (side : Side) (limit : ℕ) (words : List (Option Head)) (are : TellHeads count linked side words) (bank : ℕ) where
   if-head-of : (head : Option Head) → get_or words bank None ≡ head → IsSome (order_told linked.orders.slots head) → (one : Head) × (get_or words bank None ≡ Some one)
   if-head-of None is some = absurd (cc)
   if-head-of (Some one) is some = (one, is)
 
-  pub fewer-passed : bank < 64 → (next : Option Head) (old : Heads) → heads_told linked side words ≡ old → (words' : List (Option Head)) → words' ≡ set words bank next
-      → ((head : Resting) → head_in (heads_told linked side words) bank ≡ Some head → IfSome (order_told linked.orders.slots next) (λ (o : Resting). is_preferred (opposite side) head o ≡ true))
-      → IsSome (head_in old bank) → count_to_come (heads_told linked side words') < count_to_come old
+  pub has-head : (old : Heads) → heads_told linked side limit words ≡ old → IsSome (head_in old bank) → (one : Head) × (get_or words bank None ≡ Some one)
+  has-head old view some =
+      if-head-of (get_or words bank None) refl
+      (subst (λ (f : Option Resting). IsSome f) (ap (λ (h : Heads). head_in h bank) (sym view) ∙ told-at linked.orders.slots words bank) some)
+
+  pub fewer-passed : bank < count → (next : Option Head) (old : Heads) → heads_told linked side limit words ≡ old → (words' : List (Option Head)) → words' ≡ set words bank next
+      → ((head : Resting) → head_in (heads_told linked side limit words) bank ≡ Some head → IfSome (order_told linked.orders.slots next) (λ (o : Resting). is_preferred (opposite side) head o ≡ true))
+      → IsSome (head_in old bank) → count_to_come (heads_told linked side limit words') < count_to_come old
   fewer-passed small next old view words' is behind =
-      subst (λ (o : Heads). IsSome (head_in o bank) → count_to_come (heads_told linked side words') < count_to_come o) view (λ some.
+      subst (λ (o : Heads). IsSome (head_in o bank) → count_to_come (heads_told linked side limit words') < count_to_come o) view (λ some.
       let it = if-head-of (get_or words bank None) refl (subst (λ (f : Option Resting). IsSome f) (told-at linked.orders.slots words bank) some) in
-      let told_it = told linked side words are bank it.0 it.1 in
-      let here : head_in (heads_told linked side words) bank ≡ Some told_it.order = head-told linked side words are bank it.0 it.1 in
-      subst (λ (h : Heads). count_to_come h < count_to_come (heads_told linked side words)) (sym (ap (heads_told linked side) is ∙ head-set linked side words are bank next))
-      (fewer-to-come (heads_told linked side words) bank told_it.order (order_told linked.orders.slots next) (omega (arith, small, are.count, length-map words (order_told linked.orders.slots)))
+      let told_it = told count linked side limit words are bank it.0 it.1 in
+      let here : head_in (heads_told linked side limit words) bank ≡ Some told_it.order = head-told count linked side limit words are bank it.0 it.1 in
+      subst (λ (h : Heads). count_to_come h < count_to_come (heads_told linked side limit words)) (sym (ap (heads_told linked side limit) is ∙ head-set count linked side limit words are bank next))
+      (fewer-to-come (heads_told linked side limit words) bank told_it.order (order_told linked.orders.slots next) (omega (arith, small, are.long, length-map words (order_told linked.orders.slots)))
       (among-at linked.orders.slots it.0.place told_it.order told_it.is) told_it.own here
       (behind told_it.order here)))
 
-  pub passes-next : (next : Option Head) (old : Heads) → heads_told linked side words ≡ old → (words' : List (Option Head)) → words' ≡ set words bank next
-      → IfSome (head_in (heads_told linked side words) bank) (λ (passed : Resting). IsNext side bank (Some passed) (orders_in linked) (order_told linked.orders.slots next))
-      → PassesHead old (heads_told linked side words') bank
+  pub passes-next : (next : Option Head) (old : Heads) → heads_told linked side limit words ≡ old → (words' : List (Option Head)) → words' ≡ set words bank next
+      → IfSome (head_in (heads_told linked side limit words) bank) (λ (passed : Resting). IsNext side bank (Some passed) (orders_in linked) (order_told linked.orders.slots next))
+      → PassesHead old (heads_told linked side limit words') bank
   passes-next next old view words' is behind =
-      subst (λ (o : Heads). PassesHead o (heads_told linked side words') bank) view (record {
+      subst (λ (o : Heads). PassesHead o (heads_told linked side limit words') bank) view (record {
         head = order_told linked.orders.slots next;
-        is = ap (heads_told linked side) is ∙ head-set linked side words are bank next;
+        is = ap (heads_told linked side limit) is ∙ head-set count linked side limit words are bank next;
         next = behind;
       })
 
   -- a bank without a head has none behind it
-  pub none-told : get_or words bank None ≡ None → (P : Resting → Type 0) → IfSome (head_in (heads_told linked side words) bank) P
+  pub none-told : get_or words bank None ≡ None → (P : Resting → Type 0) → IfSome (head_in (heads_told linked side limit words) bank) P
   none-told is P = subst (λ (f : Option Resting). IfSome f P) (sym (told-at linked.orders.slots words bank ∙ ap (order_told linked.orders.slots) is)) tt
 
 -- the walk that begins, as callers see it
-pub begun : (linked : Linked) (side : Side) (book : Book) (heads : Heads) → orders_in linked ≡ book.orders → heads.side ≡ side → heads.orders ≡ orders_in linked → length heads.next ≡ 64
-    → ((bank : ℕ) → bank < 64 → IsNext side bank None (orders_in linked) (head_in heads bank)) → IsBegun book side heads
-begun linked side book heads seen side_is orders_are count best = record {
+pub begun : (linked : Linked) (side : Side) (limit count : ℕ) (book : Book) (heads : Heads) → orders_in linked ≡ book.orders → heads.side ≡ side → heads.limit ≡ limit → heads.orders ≡ orders_in linked → length heads.next ≡ count
+    → ((bank : ℕ) → IsNext side bank None (orders_in linked) (head_in heads bank)) → IsBegun book side limit count heads
+begun linked side limit count book heads seen side_is limit_is orders_are long best = record {
   side_is = side_is;
+  limit_is = limit_is;
   orders_are = orders_are ∙ seen;
-  count = count;
-  best = λ bank small. subst (λ (os : List Resting). IsNext side bank None os (head_in heads bank)) seen (best bank small);
+  count = long;
+  best = λ bank. subst (λ (os : List Resting). IsNext side bank None os (head_in heads bank)) seen (best bank);
 }

@@ -8,9 +8,11 @@ use Rattle.fx_rules.specs.Sweep.{IsBest, is_opposite, is_preferred}
 use Rattle.global_book.specs.Behind.{owned_behind}
 use Rattle.global_book.specs.Book.{Book}
 
--- the orders of a book that a walk along a side goes through, and of each bank the one that it comes to next, where there is one
+-- the orders of a book that a walk along a side goes through, the limit that it goes up to, and of each bank the order that it comes to next,
+-- where there is one
 pub record Heads : Type 0 where
   pub side : Side
+  pub limit : ℕ
   pub orders : List Resting
   pub next : List (Option Resting)
 
@@ -23,19 +25,20 @@ abbrev pub IsNext : Side → ℕ → Option Resting → List Resting → Option 
 IsNext side bank past orders None = owned_behind side bank (2 ^ 64) past orders ≡ []
 IsNext side bank past orders (Some order) = IsBest (opposite side) (owned_behind side bank (2 ^ 64) past orders) order
 
--- a walk along a side of a book has passed no order
-pub record IsBegun (book : Book) (side : Side) (heads : Heads) : Type 0 where
+-- a walk along a side of a book up to a limit, with a head for each of so many banks, has passed no order
+pub record IsBegun (book : Book) (side : Side) (limit banks : ℕ) (heads : Heads) : Type 0 where
   pub side_is : heads.side ≡ side
+  pub limit_is : heads.limit ≡ limit
   pub orders_are : heads.orders ≡ book.orders
-  pub count : length heads.next ≡ 64
-  pub best : (bank : ℕ) → bank < 64 → IsNext side bank None book.orders (head_in heads bank)
+  pub count : length heads.next ≡ banks
+  pub best : (bank : ℕ) → IsNext side bank None book.orders (head_in heads bank)
 
--- a bank's head is within a limit, and a taker prefers no other head to it
-pub record IsLeast (heads : Heads) (limit bank : ℕ) : Type 0 where
-  pub within : bank < 64
+-- a bank's head is within the limit, and a taker prefers no other head to it
+pub record IsLeast (heads : Heads) (bank : ℕ) : Type 0 where
+  pub within : bank < length heads.next
   pub head : Resting
   pub is : head_in heads bank ≡ Some head
-  pub allowed : crosses (opposite heads.side) limit head.price ≡ true
+  pub allowed : crosses (opposite heads.side) heads.limit head.price ≡ true
   pub first : (other : ℕ) (one : Resting) → head_in heads other ≡ Some one → is_preferred (opposite heads.side) one head ≡ false
 
 -- the walk with another head of a bank, or with none

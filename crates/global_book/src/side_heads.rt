@@ -1,4 +1,4 @@
-ghost use Rattle.std.specs.Prelude.{ℕ, ◌≡◌, ◌+◌, ◌<◌, None, false, length, IfSome, IsSome, option_map};
+ghost use Rattle.std.specs.Prelude.{ℕ, ◌≡◌, ◌+◌, ◌*◌, ◌<◌, ◌≤◌, None, Some, false, length, min, IfSome, IsSome, option_map};
 ghost use Rattle.fx_amounts.specs.Price.{crosses};
 ghost use Rattle.fx_amounts.specs.Side.{opposite};
 ghost use Rattle.order_store.specs.Orders.{order_at};
@@ -9,104 +9,118 @@ ghost use Rattle.global_book.specs.inside.Bests.{IsBestOf, is_own_behind};
 
 use crate::linked::LinkedOrders;
 use crate::side_ladders::rank_of;
-use access_index::{Head, HeadWords};
+use access_index::{FirstHeads, Head, word_beyond};
 use fx_amounts::{BankId, Price, Side};
 use fx_rules::Resting;
 use price_levels::Steps;
 use std::marker::Model;
 use std::sync::ledger::Ledger;
 
-/// A walk along the orders of a side in a book, from the best one on. It comes to each bank's orders in turn: a bank's head is the one that
-/// comes next. The side stands last, since a gap of the layout before the words would make a new walk copy them twice.
+/// A walk along the orders of a side in a book of at most `N` banks, in `G` groups of eight, from the best order on, up to a limit. It comes to
+/// each bank's orders in turn: a bank's head is the one that comes next.
 #[derive(Drop)]
-pub struct SideHeads<'a> {
+pub struct SideHeads<'a, const N: usize, const G: usize> {
     linked: &'a LinkedOrders,
-    words: HeadWords,
+    heads: FirstHeads<N, G>,
+    /// The least word that is above those of all orders within the limit.
+    beyond: u64,
     side: Side,
 }
 
-impl<'a> Model for SideHeads<'a> {
+impl<'a, const N: usize, const G: usize> Model for SideHeads<'a, N, G> {
     ghost use Rattle.std.specs.Prelude.{map};
     ghost use Rattle.global_book.specs.Heads.{Heads};
-    ghost use Rattle.global_book.specs.inside.Heads.{TellHeads, order_told};
+    ghost use Rattle.global_book.specs.inside.Heads.{TellHeads, TellsLimit, limit_told, order_told};
     ghost use Rattle.global_book.specs.inside.Linked.{orders_in};
 
     ghost Value = { Heads };
 
     ghost view = { λ h. record {
       side = h.side;
+      limit = limit_told h.side h.beyond;
       orders = orders_in h.linked.now;
-      next = map (order_told h.linked.now.orders.slots) h.words;
+      next = map (order_told h.linked.now.orders.slots) h.heads;
     } };
 
-    ghost invariant = { λ h. TellHeads h.linked.now h.side h.words };
+    ghost invariant = { λ h. TellHeads N h.linked.now h.side h.heads × TellsLimit h.side h.beyond };
 }
 
-impl<'a> SideHeads<'a> {
+impl<'a, const N: usize, const G: usize> SideHeads<'a, N, G> {
     ghost use Rattle.global_book.specs.inside.Linked.{AreKept, orders_in};
 
     /// A walk along a side of a book, which has passed no order.
-    pub(crate) fn new(linked: &'a LinkedOrders, side: Side) -> SideHeads<'a>
-        requires kept { (banks : ℕ) × AreKept banks linked.now }
+    #[inline(always)]
+    pub(crate) fn new(linked: &'a LinkedOrders, side: Side, limit: Price) -> SideHeads<'a, N, G>
+        requires most { N ≤ 64 }
+        requires groups { G * 8 ≡ N }
+        requires kept { (banks : ℕ) × (min banks 64 ≤ N) × AreKept banks linked.now }
         ensures side { result.side ≡ side }
+        ensures limit { result.limit ≡ limit }
         ensures orders { result.orders ≡ orders_in linked.now }
-        ensures count { length result.next ≡ 64 }
-        ensures best { (bank : ℕ) → bank < 64 → IsNext side bank None (orders_in linked.now) (head_in result bank) }
+        ensures count { length result.next ≡ N }
+        ensures best { (bank : ℕ) → IsNext side bank None (orders_in linked.now) (head_in result bank) }
     {
         SideHeads {
             linked,
-            words: linked.heads(side).copied(),
+            heads: linked.heads(side).first(),
+            beyond: word_beyond(rank_of(side, limit)),
             side,
         }
     }
 
-    /// The bank whose head is the best of all, where a limit allows the price of that; otherwise it allows none of the heads' prices, or
+    /// The bank whose head is the best of all, where the limit allows the price of that; otherwise it allows none of the heads' prices, or
     /// there are no more. It looks at words alone, and at no order.
-    pub fn least(&self, limit: Price) -> Option<BankId>
-        ensures least { IfSome result (IsLeast self.now limit) }
-        ensures none { result ≡ None → (bank : ℕ) → IfSome (head_in self.now bank) (λ head. crosses (opposite self.now.side) limit head.price ≡ false) }
+    #[inline(always)]
+    pub fn least(&self) -> Option<BankId>
+        ensures least { IfSome result (IsLeast self.now) }
+        ensures none { result ≡ None → (bank : ℕ) → IfSome (head_in self.now bank) (λ head. crosses (opposite self.now.side) self.now.limit head.price ≡ false) }
+        ensures count { length self.now.next ≡ N }
     {
-        self.words.best_within(rank_of(self.side, limit))
+        self.heads.best_below(self.beyond)
     }
 
-    /// The head of a bank; `None` where all its orders were passed. One step.
-    pub fn head<L: Ledger>(&self, bank: BankId, steps: &mut Steps<L>) -> Option<Resting>
-        requires bank { bank < 64 }
-        ensures head { result ≡ head_in self.now bank }
+    /// The head of a bank that has one. One step.
+    #[inline(always)]
+    pub fn head<L: Ledger>(&self, bank: BankId, steps: &mut Steps<L>) -> Resting
+        requires bank { bank < N }
+        requires head { IsSome (head_in self.now bank) }
+        ensures head { head_in self.now bank ≡ Some result }
         ensures step { steps.new ≡ steps.old + 1 }
     {
         steps.tick();
-        let head = self.words.of(bank)?;
-        Some(self.linked.order(head.place))
+        self.linked.order(self.heads.place(bank))
     }
 
     /// Passes the head of a bank: the next one is the bank's best order behind it, where there is one. One step.
+    #[inline(never)]
     pub fn pass<L: Ledger>(&mut self, bank: BankId, steps: &mut Steps<L>)
-        requires bank { bank < 64 }
+        requires bank { bank < N }
         ensures passed { PassesHead self.old self.new bank }
         ensures fewer { IsSome (head_in self.old bank) → count_to_come self.new < count_to_come self.old }
         ensures step { steps.new ≡ steps.old + 1 }
     {
         steps.tick();
-        let next = match self.words.of(bank) {
+        let next = match self.heads.of(bank) {
             Some(head) => self.linked.head_behind(head.place, self.side),
             None => None,
         };
-        self.words.set(bank, next);
+        self.heads.set(bank, next);
     }
 
     /// Passes all orders of a bank. It looks at none.
+    #[inline(always)]
     pub fn shut(&mut self, bank: BankId)
-        requires bank { bank < 64 }
+        requires bank { bank < N }
         ensures shut { self.new ≡ with_head self.old bank None }
         ensures fewer { IsSome (head_in self.old bank) → count_to_come self.new < count_to_come self.old }
     {
-        self.words.set(bank, None);
+        self.heads.set(bank, None);
     }
 }
 
 impl LinkedOrders {
     /// Where the best order of a bank and a side stands, of those behind the one at a place; `None` where there is none.
+    #[inline(always)]
     fn head_behind(&self, place: u32, side: Side) -> Option<Head>
         requires live { IsSome (order_at self.now.orders place) }
         ensures behind { IfSome (order_at self.now.orders place) (λ order. IsBestOf self.now.orders.slots (is_own_behind order) order.side (option_map (λ head. head.place) result)) }

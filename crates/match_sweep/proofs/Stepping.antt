@@ -5,7 +5,7 @@ use Rattle.std.proofs.Math.Nat.{le-div_iff_mul-le, mul-le-mul_left, div-mul-le_s
 use Rattle.std.proofs.lemmas.Bool.{and_parts, and_from, both_ways, cases_eq, cases_lt, cond-false, cond-true, eq-eqb, eqb-true, lt-ltb, ne_eqb}
 use Rattle.std.proofs.lemmas.List.{get_or_past, length-set}
 use Rattle.std.specs.List.{Contains}
-use Rattle.std.specs.Option.{IfSome, IsSomeAnd}
+use Rattle.std.specs.Option.{IfSome, IsSome, IsSomeAnd}
 use Rattle.fx_amounts.specs.Side.{opposite}
 use Rattle.fx_amounts.specs.declared.side.Side.{Side}
 use Rattle.fx_amounts.specs.Price.{crosses}
@@ -13,7 +13,7 @@ use Rattle.fx_amounts.specs.Quantity.{IsWeight}
 use Rattle.fx_rules.specs.declared.orders.Resting.{Resting}
 use Rattle.fx_rules.specs.declared.orders.Fill.{Fill}
 use Rattle.fx_rules.specs.Lists.{Among}
-use Rattle.fx_rules.specs.Sweep.{IsBest, is_open, is_opposite, is_preferred, amount, fill_with, less}
+use Rattle.fx_rules.specs.Sweep.{IsBest, is_open, is_opposite, is_preferred, less}
 use Rattle.fx_rules.specs.Plan.{Planned, is_behind, open_behind, spend}
 use Rattle.fx_rules.proofs.ListLemmas.{Among-filter, Each-among, Each-of, among_filter}
 use Rattle.fx_rules.proofs.Opens.{IsOpen, is_open-says}
@@ -24,7 +24,7 @@ use Rattle.global_book.specs.Heads.{Heads, IsLeast, IsNext, PassesHead, head_in,
 use Rattle.global_book.proofs.Sought.{opposite-opposite}
 use Rattle.global_book.proofs.Within.{crosses_too}
 use Rattle.credit_lines.specs.Credit.{Credit, line_in}
-use Rattle.match_sweep.specs.inside.Walks.{FromHere, HasCome, IsHeadOf, IsWalk, MayTake, Takes, left_with, open_from, reach_of}
+use Rattle.match_sweep.specs.inside.Walks.{FromHere, GoesBehind, HasCome, IsFound, IsHeadOf, IsWalk, MayTake, Takes, left_with, open_from, reach_of}
 use Rattle.match_sweep.specs.declared.walk.Walk.{Walk}
 use Rattle.match_sweep.proofs.Planning.{planned-agrees}
 use Rattle.match_sweep.proofs.Picking.{none_among, not_before_first, same_or_before, still_behind}
@@ -96,15 +96,15 @@ if-all : (found : Option Resting) (P : Resting → Type 0) → ((h : Resting) �
 if-all None P all = tt
 if-all (Some h) P all = all h refl
 
-pub turned : (credit : Credit) (walk : Walk) → IsWalk credit walk → opposite walk.heads.side ≡ walk.order.side
+pub turned : {n g : ℕ} (credit : Credit) (walk : Walk n g) → IsWalk credit walk → opposite walk.heads.side ≡ walk.order.side
 turned credit walk is = ap opposite is.side ∙ opposite-opposite walk.order.side
 
-module _ (credit : Credit) (walk : Walk) (is : IsWalk credit walk) where
+module _ {n g : ℕ} (credit : Credit) (walk : Walk n g) (is : IsWalk credit walk) where
   pub head-of : (bank : ℕ) (head : Resting) → head_in walk.heads bank ≡ Some head → IsHeadOf walk.order.side walk.heads.orders bank head
   head-of bank head at = if-is (head_in walk.heads bank) (IsHeadOf walk.order.side walk.heads.orders bank) head at (is.heads bank)
 
-  pub head-small : (bank : ℕ) (head : Resting) → head_in walk.heads bank ≡ Some head → bank < 64
-  head-small bank head at = elim (cases_lt bank 64) [
+  pub head-small : (bank : ℕ) (head : Resting) → head_in walk.heads bank ≡ Some head → bank < n
+  head-small bank head at = elim (cases_lt bank n) [
     | inl small ↦ small
     | inr past ↦ absurd (none-some (sym (get_or_past walk.heads.next bank None (omega (arith, is.count, past))) ∙ at))
   ]
@@ -116,11 +116,15 @@ module _ (credit : Credit) (walk : Walk) (is : IsWalk credit walk) where
   held-of o there = Each-among (IsHeld credit.banks) walk.heads.orders o is.held there
 
   -- the bank with the best head is one of those of the lines
-  pub least-bank : (limit bank : ℕ) → IsLeast walk.heads limit bank → bank < credit.banks
-  least-bank limit bank least = let head = head-of bank least.head least.is in omega (arith, (held-of least.head head.there).bank, head.owner)
+  pub least-bank : (bank : ℕ) → IsLeast walk.heads bank → bank < credit.banks
+  least-bank bank least = let head = head-of bank least.head least.is in omega (arith, (held-of least.head head.there).bank, head.owner)
+
+  -- and it has a head
+  pub least-some : (bank : ℕ) → IsLeast walk.heads bank → IsSome (head_in walk.heads bank)
+  least-some bank least = subst (λ (f : Option Resting). IsSome f) (sym least.is) refl
 
   -- the head of a bank that is another one than the walk's own, with which the line pays for a lot, may be taken
-  pub least-may : (bank : ℕ) (maker : Resting) → IsLeast walk.heads walk.order.price bank → Some maker ≡ head_in walk.heads bank → bank ≢ walk.order.bank → walk.weight ≤ left_with credit walk bank → MayTake credit walk maker
+  pub least-may : (bank : ℕ) (maker : Resting) → IsLeast walk.heads bank → Some maker ≡ head_in walk.heads bank → bank ≢ walk.order.bank → walk.weight ≤ left_with credit walk bank → MayTake credit walk maker
   least-may bank maker least seen other line =
       let head = head-of bank maker (sym seen) in
       let same : least.head ≡ maker = some_same least.head maker (sym least.is ∙ sym seen) in
@@ -136,17 +140,29 @@ module _ (credit : Credit) (walk : Walk) (is : IsWalk credit walk) where
       some_same : (a b : Resting) → Some a ≡ Some b → a ≡ b
       some_same a b is = cc
 
-  pub least-crosses : (bank : ℕ) (maker : Resting) → IsLeast walk.heads walk.order.price bank → Some maker ≡ head_in walk.heads bank → crosses walk.order.side walk.order.price maker.price ≡ true
+  -- so it is found
+  pub found-least : (bank line : ℕ) (maker : Resting) → IsLeast walk.heads bank → head_in walk.heads bank ≡ Some maker → bank ≢ walk.order.bank → line ≡ left_with credit walk bank → walk.weight ≤ line
+      → line_in credit walk.order.bank bank ≤ 10 ^ 15 → IsFound credit walk (maker, line)
+  found-least bank line maker least at other line_is enough most =
+      let owner : maker.bank ≡ bank = (head-of bank maker at).owner in
+      record {
+        may = least-may bank maker least (sym at) other (omega (arith, line_is, enough));
+        line = line_is ∙ sym (ap (left_with credit walk) owner);
+        most = subst (λ (b : ℕ). line_in credit walk.order.bank b ≤ 10 ^ 15) (sym owner) most;
+      }
+
+  pub least-crosses : (bank : ℕ) (maker : Resting) → IsLeast walk.heads bank → Some maker ≡ head_in walk.heads bank → crosses walk.order.side walk.order.price maker.price ≡ true
   least-crosses bank maker least seen =
       subst (λ (m : Resting). crosses walk.order.side walk.order.price m.price ≡ true) (some_same least.head maker (sym least.is ∙ sym seen))
-      (subst (λ (s : Side). crosses s walk.order.price least.head.price ≡ true) (turned credit walk is) least.allowed)
+      (subst (λ (limit : ℕ). crosses walk.order.side limit least.head.price ≡ true) is.limit
+      (subst (λ (s : Side). crosses s walk.heads.limit least.head.price ≡ true) (turned credit walk is) least.allowed))
     where
       some_same : (a b : Resting) → Some a ≡ Some b → a ≡ b
       some_same a b is = cc
 
   -- One head is another one.
 
-  module _ (bank : ℕ) (next : Option Resting) (small : bank < 64) where
+  module _ (bank : ℕ) (next : Option Resting) (small : bank < n) where
     set-here : head_in (with_head walk.heads bank next) bank ≡ next
     set-here = get_or-set_same walk.heads.next bank next None (omega (arith, small, is.count))
 
@@ -172,8 +188,10 @@ module _ (credit : Credit) (walk : Walk) (is : IsWalk credit walk) where
       rising = is.rising;
       held = is.held;
       bank = is.bank;
+      banks = is.banks;
       weight = is.weight;
       side = is.side;
+      limit = is.limit;
       count = length-set walk.heads.next bank next ∙ is.count;
       full = is.full;
       used = is.used;
@@ -183,7 +201,7 @@ module _ (credit : Credit) (walk : Walk) (is : IsWalk credit walk) where
     }
 
   -- A bank is shut.
-  pub shut-come : (bank : ℕ) (last : Option Resting) → bank < 64 → reach_of credit walk bank ≡ 0 ⊎ (bank ≡ walk.order.bank) → HasCome credit walk last → HasCome credit (record walk { heads = with_head walk.heads bank None }) last
+  pub shut-come : (bank : ℕ) (last : Option Resting) → bank < n → reach_of credit walk bank ≡ 0 ⊎ (bank ≡ walk.order.bank) → HasCome credit walk last → HasCome credit (record walk { heads = with_head walk.heads bank None }) last
   shut-come bank last small shut come = record {
     behind = if-set bank None small (λ _ (h : Resting). is_behind walk.order.side last h ≡ true) tt (λ other differ. come.behind other);
     all = λ o there opens behind. and-set bank None small (λ (h : Resting). is_preferred walk.order.side o h ≡ false) o.bank
@@ -195,7 +213,7 @@ module _ (credit : Credit) (walk : Walk) (is : IsWalk credit walk) where
   }
 
   -- A head is passed.
-  module _ (bank : ℕ) (maker : Resting) (heads : Heads) (small : bank < 64) (at : head_in walk.heads bank ≡ Some maker) (passes : PassesHead walk.heads heads bank) where
+  module _ (bank : ℕ) (maker : Resting) (heads : Heads) (small : bank < n) (at : head_in walk.heads bank ≡ Some maker) (passes : PassesHead walk.heads heads bank) where
     next-of : IsNext walk.heads.side bank (Some maker) walk.heads.orders passes.head
     next-of = if-is (head_in walk.heads bank) (λ (p : Resting). IsNext walk.heads.side bank (Some p) walk.heads.orders passes.head) maker at passes.next
 
@@ -241,30 +259,42 @@ module _ (credit : Credit) (walk : Walk) (is : IsWalk credit walk) where
         first-here : (o : Resting) → head_in walk.heads o.bank ≡ Some maker → IsSomeAnd (head_in walk.heads o.bank) (λ (h : Resting). is_preferred walk.order.side o h ≡ false) → is_preferred walk.order.side o maker ≡ false
         first-here o here holds = subst (λ (f : Option Resting). IsSomeAnd f (λ (h : Resting). is_preferred walk.order.side o h ≡ false)) here holds
 
+-- The head of a bank is passed, or all its orders are.
+
+pub orders-behind : (weight line : ℕ) (old new : Heads) (bank : ℕ) → GoesBehind weight line old new bank → new.orders ≡ old.orders
+orders-behind weight line old new bank (inl passes) = ap (λ (h : Heads). h.orders) passes.is
+orders-behind weight line old new bank (inr shut) = ap (λ (h : Heads). h.orders) shut.1
+
+pub walk-behind : {n g : ℕ} (credit : Credit) (walk : Walk n g) → IsWalk credit walk → (line : ℕ) (heads : Heads) (maker : Resting) → maker.bank < n → head_in walk.heads maker.bank ≡ Some maker
+    → GoesBehind walk.weight line walk.heads heads maker.bank → IsWalk credit (record walk { heads = heads })
+walk-behind credit walk is line heads maker small at (inl passes) = walk-passed credit walk is maker.bank maker heads small at passes
+walk-behind credit walk is line heads maker small at (inr shut) =
+    subst (λ (h : Heads). IsWalk credit (record walk { heads = h })) (sym shut.1) (walk-set credit walk is maker.bank None small tt)
+
 -- A bank is shut where what is left of the line does not pay for a lot, or it is the walk's own.
-pub shut-by : (credit : Credit) (walk : Walk) (bank line : ℕ) → (bank ≢ walk.order.bank → line ≡ left_with credit walk bank) → line < walk.weight → (reach_of credit walk bank ≡ 0) ⊎ (bank ≡ walk.order.bank)
+pub shut-by : {n g : ℕ} (credit : Credit) (walk : Walk n g) (bank line : ℕ) → (bank ≢ walk.order.bank → line ≡ left_with credit walk bank) → line < walk.weight → (reach_of credit walk bank ≡ 0) ⊎ (bank ≡ walk.order.bank)
 shut-by credit walk bank line is short = elim (cases_eq bank walk.order.bank) [
   | inl own ↦ inr own
   | inr differ ↦ inl (div_none (left_with credit walk bank) walk.weight (omega (arith, is differ, short)))
 ]
 
-pub pays-other : (walk : Walk) (bank line : ℕ) → IsWeight walk.weight → (bank ≡ walk.order.bank → line ≡ 0) → walk.weight ≤ line → bank ≢ walk.order.bank
+pub pays-other : {n g : ℕ} (walk : Walk n g) (bank line : ℕ) → IsWeight walk.weight → (bank ≡ walk.order.bank → line ≡ 0) → walk.weight ≤ line → bank ≢ walk.order.bank
 pays-other walk bank line weight own pays same = omega (arith, own same, pays, weight.0)
 
 -- The same orders are open to a walk whose heads alone changed.
-pub open-along : (credit : Credit) (old new : Walk) (last : Option Resting) → new ≡ record old { heads = new.heads } → new.heads.orders ≡ old.heads.orders → open_from credit new last ≡ open_from credit old last
-open-along credit old new last same orders =
-    ap (λ (w : Walk). open_from credit w last) same ∙ ap (λ (os : List Resting). open_behind (reach_of credit old) old.order last os) orders
+pub open-along : {n g : ℕ} (credit : Credit) (old new : Walk n g) (last : Option Resting) → new ≡ record old { heads = new.heads } → new.heads.orders ≡ old.heads.orders → open_from credit new last ≡ open_from credit old last
+open-along {n = n} {g = g} credit old new last same orders =
+    ap (λ (w : Walk n g). open_from credit w last) same ∙ ap (λ (os : List Resting). open_behind (reach_of credit old) old.order last os) orders
 
-pub from-along : (credit : Credit) (old new : Walk) (last : Option Resting) (fills : List Fill) (left : ℕ) → new ≡ record old { heads = new.heads } → new.heads.orders ≡ old.heads.orders
+pub from-along : {n g : ℕ} (credit : Credit) (old new : Walk n g) (last : Option Resting) (fills : List Fill) (left : ℕ) → new ≡ record old { heads = new.heads } → new.heads.orders ≡ old.heads.orders
     → FromHere credit new last fills left → FromHere credit old last fills left
-from-along credit old new last fills left same orders from =
+from-along {n = n} {g = g} credit old new last fills left same orders from =
     subst (λ (os : List Resting). Planned old.weight (left_with credit old) os old.order last fills left) orders
-    (subst (λ (w : Walk). FromHere credit w last fills left) same from)
+    (subst (λ (w : Walk n g). FromHere credit w last fills left) same from)
 
 -- The best of the heads is the best of all that are open.
 
-module _ (credit : Credit) (walk : Walk) (is : IsWalk credit walk) (last : Option Resting) (come : HasCome credit walk last) where
+module _ {n g : ℕ} (credit : Credit) (walk : Walk n g) (is : IsWalk credit walk) (last : Option Resting) (come : HasCome credit walk last) where
   -- the head of an open order's bank
   open-head : (o : Resting) → Among o (open_from credit walk last)
       → (h : Resting) × (head_in walk.heads o.bank ≡ Some h) × (is_preferred walk.order.side o h ≡ false) × Among o walk.heads.orders × IsOpen walk.order (reach_of credit walk o.bank) o
@@ -274,8 +304,11 @@ module _ (credit : Credit) (walk : Walk) (is : IsWalk credit walk) (last : Optio
       let head = some-is (head_in walk.heads o.bank) (λ (h : Resting). is_preferred walk.order.side o h ≡ false) (come.all o it.0 parts.0 parts.1) in
       (head.0, head.1, head.2, it.0, is_open-says walk.order (reach_of credit walk o.bank) o parts.0)
 
-  pub none-open : ((bank : ℕ) → IfSome (head_in walk.heads bank) (λ (h : Resting). crosses walk.order.side walk.order.price h.price ≡ false)) → open_from credit walk last ≡ []
-  none-open dear =
+  pub none-open : ((bank : ℕ) → IfSome (head_in walk.heads bank) (λ (h : Resting). crosses (opposite walk.heads.side) walk.heads.limit h.price ≡ false)) → open_from credit walk last ≡ []
+  none-open above =
+      let dear : (bank : ℕ) → IfSome (head_in walk.heads bank) (λ (h : Resting). crosses walk.order.side walk.order.price h.price ≡ false) =
+      subst (λ (limit : ℕ). (bank : ℕ) → IfSome (head_in walk.heads bank) (λ (h : Resting). crosses walk.order.side limit h.price ≡ false)) is.limit
+      (subst (λ (s : Side). (bank : ℕ) → IfSome (head_in walk.heads bank) (λ (h : Resting). crosses s walk.heads.limit h.price ≡ false)) (turned credit walk is) above) in
       none_among (open_from credit walk last) (λ o there.
       let it = open-head o there in
       both_ways (crosses walk.order.side walk.order.price it.0.price)
@@ -305,11 +338,17 @@ module _ (credit : Credit) (walk : Walk) (is : IsWalk credit walk) (last : Optio
 
 -- An order is taken.
 
-fill_is : (walk : Walk) (credit : Credit) (maker : Resting) (fill : Fill) → fill ≡ fill_with walk.order maker (amount walk.order maker (reach_of credit walk maker.bank)) → fill ≡ fill_with walk.order maker fill.lots
-fill_is walk credit maker fill is = is ∙ ap (fill_with walk.order maker) (sym (ap (λ (f : Fill). f.lots) is))
+-- what a taken order costs is at most what the line pays for
+pub cost-fits : {n g : ℕ} (line : ℕ) (old new : Walk n g) (maker : Resting) (fill : Fill) → Takes line old new maker fill → fill.lots * old.weight ≤ line
+cost-fits line old new maker fill takes =
+    let lots : fill.lots ≤ line / old.weight = least-last old.order.left maker.left (line / old.weight) fill.lots (ap (λ (f : Fill). f.lots) takes.is) in
+    omega (arith, mul-le-mul_left old.weight lots, div-mul-le_self line old.weight)
+  where
+    least-last : (a b r lots : ℕ) → lots ≡ min a (min b r) → lots ≤ r
+    least-last a b r lots is = omega arith
 
-module _ (credit : Credit) (walk : Walk) (is : IsWalk credit walk) (maker : Resting) (may : MayTake credit walk maker) (fill : Fill) (new : Walk) (takes : Takes credit walk new maker fill) where
-  abbrev pub taken : Walk
+module _ {n g : ℕ} (credit : Credit) (walk : Walk n g) (is : IsWalk credit walk) (maker : Resting) (may : MayTake credit walk maker) (fill : Fill) (new : Walk n g) (takes : Takes (left_with credit walk maker.bank) walk new maker fill) where
+  abbrev pub taken : Walk n g
   taken = record walk {
     order = less walk.order fill.lots;
     used = set walk.used maker.bank (slice_index walk.used maker.bank + fill.lots * walk.weight);
@@ -322,13 +361,7 @@ module _ (credit : Credit) (walk : Walk) (is : IsWalk credit walk) (maker : Rest
   units = fill.lots * walk.weight
 
   fits : units ≤ left_with credit walk maker.bank
-  fits =
-      let line : ℕ = left_with credit walk maker.bank in
-      let lots : fill.lots ≤ line / walk.weight = least-last walk.order.left maker.left (line / walk.weight) fill.lots (ap (λ (f : Fill). f.lots) takes.is) in
-      omega (arith, mul-le-mul_left walk.weight lots, div-mul-le_self line walk.weight)
-    where
-      least-last : (a b r lots : ℕ) → lots ≡ min a (min b r) → lots ≤ r
-      least-last a b r lots is = omega arith
+  fits = cost-fits (left_with credit walk maker.bank) walk new maker fill takes
 
   -- of other banks nothing more is used
   same-left : (bank : ℕ) → bank ≢ maker.bank → left_with credit taken bank ≡ left_with credit walk bank
@@ -347,8 +380,10 @@ module _ (credit : Credit) (walk : Walk) (is : IsWalk credit walk) (maker : Rest
     rising = is.rising;
     held = is.held;
     bank = is.bank;
+    banks = is.banks;
     weight = is.weight;
     side = is.side;
+    limit = is.limit;
     count = is.count;
     full = length-set walk.used maker.bank (slice_index walk.used maker.bank + units) ∙ is.full;
     used = λ bank. elim (cases_eq bank maker.bank) [
@@ -360,38 +395,58 @@ module _ (credit : Credit) (walk : Walk) (is : IsWalk credit walk) (maker : Rest
     heads = is.heads;
   })
 
-  -- once its head is passed the walk has come behind it
-  pub taken-come : (last : Option Resting) (heads : Heads) → HasCome credit walk last → PassesHead walk.heads heads maker.bank → maker.bank < 64 → HasCome credit (record new { heads = heads }) (Some maker)
-  taken-come last heads come passes small =
-      subst (λ (w : Walk). HasCome credit (record w { heads = heads }) (Some maker)) (sym takes.now)
-      (subst (λ (h : Heads). HasCome credit (record taken { heads = h }) (Some maker)) (sym passes.is)
-      (record {
-        behind = if-set credit walk is maker.bank passes.head small (λ _ (h : Resting). is_preferred walk.order.side maker h ≡ true)
-            (if-all passes.head (λ (h : Resting). is_preferred walk.order.side maker h ≡ true) (λ h here.
-            (if-is passes.head (IsOneOf walk.order.side maker.bank (Some maker) walk.heads.orders) h here (next-one credit walk is maker.bank maker heads small may.is passes)).behind))
-            (λ other differ. if-all (head_in walk.heads other) (λ (h : Resting). is_preferred walk.order.side maker h ≡ true) (λ h at.
-            let head = head-of credit walk is other h at in
-            elim (same_or_before walk.order.side walk.heads.orders maker h is.rising here.there head.there
-            (if-is (head_in walk.heads other) (λ (q : Resting). is_preferred walk.order.side q maker ≡ false) h at (may.first other))) [
-              | inl equal ↦ absurd (differ (sym head.owner ∙ ap (λ (q : Resting). q.bank) (sym equal)))
-              | inr before ↦ before
-            ]));
-        all = λ o there opens behind. and-set credit walk is maker.bank passes.head small (λ (h : Resting). is_preferred walk.order.side o h ≡ false) o.bank
-            (λ same. next-covers credit walk is maker.bank maker heads small may.is passes o there same (is_open-says (less walk.order fill.lots) (reach_of credit taken o.bank) o opens).opposite behind)
-            (λ differ. come.all o there
-            (subst (λ (n : ℕ). is_open walk.order (n / walk.weight) o ≡ true) (same-left o.bank differ) opens)
-            (still_behind walk.order.side last maker o (if-is (head_in walk.heads maker.bank) (λ (h : Resting). is_behind walk.order.side last h ≡ true) maker may.is (come.behind maker.bank)) behind));
-      }))
+  here-head : IsHeadOf walk.order.side walk.heads.orders maker.bank maker
+  here-head = head-of credit walk is maker.bank maker may.is
+
+  -- with another head of its bank the walk has come behind it, where that head is behind it, and before all that are open still
+  behind-taken : (last next : Option Resting) → HasCome credit walk last → maker.bank < n → IfSome next (λ (h : Resting). is_preferred walk.order.side maker h ≡ true)
+      → ((o : Resting) → Among o walk.heads.orders → o.bank ≡ maker.bank → is_open (less walk.order fill.lots) (reach_of credit taken o.bank) o ≡ true → is_preferred walk.order.side maker o ≡ true
+      → IsSomeAnd next (λ (h : Resting). is_preferred walk.order.side o h ≡ false))
+      → HasCome credit (record taken { heads = with_head walk.heads maker.bank next }) (Some maker)
+  behind-taken last next come small behind covers = record {
+    behind = if-set credit walk is maker.bank next small (λ _ (h : Resting). is_preferred walk.order.side maker h ≡ true) behind
+        (λ other differ. if-all (head_in walk.heads other) (λ (h : Resting). is_preferred walk.order.side maker h ≡ true) (λ h at.
+        let head = head-of credit walk is other h at in
+        elim (same_or_before walk.order.side walk.heads.orders maker h is.rising here-head.there head.there
+        (if-is (head_in walk.heads other) (λ (q : Resting). is_preferred walk.order.side q maker ≡ false) h at (may.first other))) [
+          | inl equal ↦ absurd (differ (sym head.owner ∙ ap (λ (q : Resting). q.bank) (sym equal)))
+          | inr before ↦ before
+        ]));
+    all = λ o there opens after. and-set credit walk is maker.bank next small (λ (h : Resting). is_preferred walk.order.side o h ≡ false) o.bank (λ same. covers o there same opens after)
+        (λ differ. come.all o there
+        (subst (λ (k : ℕ). is_open walk.order (k / walk.weight) o ≡ true) (same-left o.bank differ) opens)
+        (still_behind walk.order.side last maker o (if-is (head_in walk.heads maker.bank) (λ (h : Resting). is_behind walk.order.side last h ≡ true) maker may.is (come.behind maker.bank)) after));
+  }
+
+  -- once its head is passed the walk has come behind it, and where its bank is shut, since the line pays for no more lot
+  pub taken-come : (last : Option Resting) (line : ℕ) (heads : Heads) → HasCome credit walk last → maker.bank < n → line + units ≡ left_with credit walk maker.bank → GoesBehind walk.weight line walk.heads heads maker.bank
+      → HasCome credit (record new { heads = heads }) (Some maker)
+  taken-come last line heads come small left behind = subst (λ (w : Walk n g). HasCome credit (record w { heads = heads }) (Some maker)) (sym takes.now) (of-taken behind)
     where
-      here : IsHeadOf walk.order.side walk.heads.orders maker.bank maker
-      here = head-of credit walk is maker.bank maker may.is
+      none : line < walk.weight → reach_of credit taken maker.bank ≡ 0
+      none short = div_none (left_with credit taken maker.bank) walk.weight (omega (arith, less-left, short, left))
+
+      of-taken : GoesBehind walk.weight line walk.heads heads maker.bank → HasCome credit (record taken { heads = heads }) (Some maker)
+      of-taken (inl passes) =
+          subst (λ (h : Heads). HasCome credit (record taken { heads = h }) (Some maker)) (sym passes.is)
+          (behind-taken last passes.head come small
+          (if-all passes.head (λ (h : Resting). is_preferred walk.order.side maker h ≡ true) (λ h here.
+          (if-is passes.head (IsOneOf walk.order.side maker.bank (Some maker) walk.heads.orders) h here (next-one credit walk is maker.bank maker heads small may.is passes)).behind))
+          (λ o there same opens after.
+          next-covers credit walk is maker.bank maker heads small may.is passes o there same (is_open-says (less walk.order fill.lots) (reach_of credit taken o.bank) o opens).opposite after))
+      of-taken (inr shut) =
+          subst (λ (h : Heads). HasCome credit (record taken { heads = h }) (Some maker)) (sym shut.1)
+          (behind-taken last None come small tt
+          (λ o there same opens after.
+          let says = is_open-says (less walk.order fill.lots) (reach_of credit taken o.bank) o opens in
+          absurd (omega (arith, says.reach, none shut.0, ap (reach_of credit taken) same))))
 
   -- what it fills from there it fills behind the fill
   pub goes-on : (last : Option Resting) (heads : Heads) → heads.orders ≡ walk.heads.orders → 1 ≤ walk.order.left → IsBest walk.order.side (open_from credit walk last) maker
       → (more : List Fill) (left : ℕ) → FromHere credit (record new { heads = heads }) (Some maker) more left → FromHere credit walk last (fill ∷ more) left
   goes-on last heads orders_are some best more left from =
       let from_taken : Planned walk.weight (left_with credit taken) heads.orders (less walk.order fill.lots) (Some maker) more left =
-      subst (λ (w : Walk). Planned w.weight (left_with credit w) heads.orders w.order (Some maker) more left) takes.now from in
+      subst (λ (w : Walk n g). Planned w.weight (left_with credit w) heads.orders w.order (Some maker) more left) takes.now from in
       let here : Planned walk.weight (left_with credit taken) walk.heads.orders (less walk.order fill.lots) (Some maker) more left =
       subst (λ (os : List Resting). Planned walk.weight (left_with credit taken) os (less walk.order fill.lots) (Some maker) more left) orders_are from_taken in (
         maker,

@@ -2,7 +2,7 @@
 use Rattle.std.proofs.Common.{ℕ, ◌≡◌, ◌+◌, ◌-◌, ◌*◌, ◌/◌, ◌^◌, ◌≤◌, ◌<◌, true, false, ◌&&◌, List, [], ◌∷◌, ◌++◌, length, map, replicate, get_or, slice_index, Option, Some, None, inl, inr, refl, ap, sym, subst, ◌∙◌, arith, append_assoc, append-nil}
 use Rattle.std.proofs.Math.Nat.{add-mul, mul-le-mul_left}
 use Rattle.std.proofs.lemmas.Bool.{and_parts, both_ways, cases_lt}
-use Rattle.std.proofs.lemmas.List.{get_or-replicate, get_or_past}
+use Rattle.std.proofs.lemmas.List.{get_or_past, length-replicate}
 use Rattle.std.specs.Option.{IfSome}
 use Rattle.fx_amounts.specs.Price.{crosses}
 use Rattle.fx_amounts.specs.Quantity.{IsWeight}
@@ -28,11 +28,11 @@ use Rattle.match_sweep.specs.declared.walk.Walk.{Walk}
 use Rattle.match_sweep.proofs.Picking.{none_among}
 use Rattle.match_sweep.proofs.Planning.{planned-agrees, planned-paid, planned-sum}
 use Rattle.match_sweep.proofs.Stepping.{IsOneOf, next-first, next-is, owners}
-use Rattle.match_sweep.proofs.Tables.{total-most}
+use Rattle.match_sweep.proofs.Tables.{replicate-at, total-most}
 
 -- A walk made these fills since the beginning of a sweep, and the last of them with this order: whatever it makes from here, all of them
 -- are the sweep.
-pub record Gone (book : Book) (credit : Credit) (weight : ℕ) (t : Taker) (now : Walk) (fills : List Fill) : Type 0 where
+pub record Gone {n g : ℕ} (book : Book) (credit : Credit) (weight : ℕ) (t : Taker) (now : Walk n g) (fills : List Fill) : Type 0 where
   pub last : Option Resting
   pub walk : IsWalk credit now
   pub come : 1 ≤ now.order.left → HasCome credit now last
@@ -42,62 +42,50 @@ pub record Gone (book : Book) (credit : Credit) (weight : ℕ) (t : Taker) (now 
 
 -- The beginning.
 
-module _ (book : Book) (credit : Credit) (weight : ℕ) (t : Taker) (heads : Heads) (valid : IsBook book) (banks : book.banks ≡ credit.banks) (begun : IsBegun book (opposite t.side) heads) where
-  abbrev pub first_walk : Walk
-  first_walk = record { order = t; weight = weight; used = replicate 65 0; heads = heads }
+head-within : (n : ℕ) (book : Book) (t : Taker) (heads : Heads) → IsBegun book (opposite t.side) t.price n heads → (bank : ℕ) → IfSome (head_in heads bank) (IsHeadOf t.side heads.orders bank)
+head-within n book t heads begun bank =
+    of-one (head_in heads bank) (next-is (opposite t.side) t.side bank None book.orders (opposite-opposite t.side) (head_in heads bank) (begun.best bank))
+  where
+    of-one : (found : Option Resting) → IfSome found (IsOneOf t.side bank None book.orders) → IfSome found (IsHeadOf t.side heads.orders bank)
+    of-one None is = tt
+    of-one (Some head) is = record { there = subst (Among head) (sym begun.orders_are) is.there; owner = is.owner; opposite = is.opposite }
 
-  turned : opposite (opposite t.side) ≡ t.side
-  turned = opposite-opposite t.side
+all-behind : (side : Side) (found : Option Resting) → IfSome found (λ (h : Resting). is_behind side None h ≡ true)
+all-behind side None = tt
+all-behind side (Some head) = refl
 
-  abbrev pub unused : List ℕ
-  unused = replicate 65 0
+module _ {n g : ℕ} (book : Book) (credit : Credit) (weight : ℕ) (t : Taker) (heads : Heads) (valid : IsBook book) (banks : book.banks ≡ credit.banks) (begun : IsBegun book (opposite t.side) t.price n heads) where
+  abbrev pub first_walk : Walk n g
+  first_walk = record { order = t; weight = weight; used = replicate n 0; heads = heads }
 
-  none-used : (bank : ℕ) → slice_index unused bank ≡ 0
-  none-used bank = elim (cases_lt bank 65) [
-    | inl small ↦ get_or-replicate 65 bank 0 0 small
-    | inr past ↦ get_or_past unused bank 0 past
-  ]
-
-  head-within : (bank : ℕ) → IfSome (head_in heads bank) (IsHeadOf t.side heads.orders bank)
-  head-within bank = elim (cases_lt bank 64) [
-    | inl small ↦ of-one (head_in heads bank) (next-is (opposite t.side) t.side bank None book.orders turned (head_in heads bank) (begun.best bank small))
-    | inr past ↦ subst (λ (f : Option Resting). IfSome f (IsHeadOf t.side heads.orders bank)) (sym (get_or_past heads.next bank None (omega (arith, begun.count, past)))) tt
-  ]
-    where
-      of-one : (found : Option Resting) → IfSome found (IsOneOf t.side bank None book.orders) → IfSome found (IsHeadOf t.side heads.orders bank)
-      of-one None is = tt
-      of-one (Some head) is = record { there = subst (Among head) (sym begun.orders_are) is.there; owner = is.owner; opposite = is.opposite }
-
-  all-behind : (found : Option Resting) → IfSome found (λ (h : Resting). is_behind t.side None h ≡ true)
-  all-behind None = tt
-  all-behind (Some head) = refl
-
-  pub gone-begins : t.bank < credit.banks → IsWeight weight → credit.banks ≤ 64 → Gone book credit weight t first_walk []
+  pub gone-begins : t.bank < credit.banks → IsWeight weight → credit.banks ≤ n → Gone book credit weight t first_walk []
   gone-begins bank weighs few = record {
     last = None;
     walk = record {
       rising = subst (λ (os : List Resting). EachPair ArrivesBefore os) (sym begun.orders_are) valid.rising;
       held = subst (λ (os : List Resting). Each (IsHeld credit.banks) os) (sym begun.orders_are) (subst (λ (n : ℕ). Each (IsHeld n) book.orders) banks valid.held);
       bank = bank;
+      banks = few;
       weight = weighs;
       side = begun.side_is;
+      limit = begun.limit_is;
       count = begun.count;
-      full = refl;
-      used = λ b. omega (arith, none-used b);
-      heads = head-within;
+      full = length-replicate n 0;
+      used = λ b. omega (arith, replicate-at {X = ℕ} 0 n b);
+      heads = head-within n book t heads begun;
     };
     come = λ _. record {
-      behind = λ b. all-behind (head_in heads b);
+      behind = λ b. all-behind t.side (head_in heads b);
       all = λ o there opens behind.
           let in_book : Among o book.orders = subst (Among o) begun.orders_are there in
           let held : IsHeld book.banks o = Each-among (IsHeld book.banks) book.orders o valid.held in_book in
-          next-first (opposite t.side) t.side o.bank None book.orders turned (head_in heads o.bank) (begun.best o.bank (omega (arith, held.bank, banks, few))) o
+          next-first (opposite t.side) t.side o.bank None book.orders (opposite-opposite t.side) (head_in heads o.bank) (begun.best o.bank) o
           (record { there = in_book; owner = refl; opposite = (is_open-says t (left_with credit first_walk o.bank / weight) o opens).opposite; behind = refl }) held.arrival_most;
     };
     orders = begun.orders_are;
     arrival = refl;
     goes_on = λ more left from.
-        planned-agrees weight (left_with credit first_walk) (line_in credit t.bank) book.orders t None more left (λ o there. inl (no-less (line_in credit t.bank o.bank) (slice_index unused o.bank) (none-used o.bank)))
+        planned-agrees weight (left_with credit first_walk) (line_in credit t.bank) book.orders t None more left (λ o there. inl (no-less (line_in credit t.bank o.bank) (slice_index (replicate n 0) o.bank) (replicate-at {X = ℕ} 0 n o.bank)))
         (subst (λ (os : List Resting). Planned weight (left_with credit first_walk) os t None more left) begun.orders_are from);
   }
     where
@@ -106,7 +94,7 @@ module _ (book : Book) (credit : Credit) (weight : ℕ) (t : Taker) (heads : Hea
 
 -- One fill more, and the end.
 
-module _ (book : Book) (credit : Credit) (weight : ℕ) (t : Taker) (now next : Walk) (fills made : List Fill) (gone : Gone book credit weight t now fills) where
+module _ {n g : ℕ} (book : Book) (credit : Credit) (weight : ℕ) (t : Taker) (now next : Walk n g) (fills made : List Fill) (gone : Gone book credit weight t now fills) where
   pub gone-on : (fill : Fill) → made ≡ fills ++ fill ∷ [] → ((last : Option Resting) → (1 ≤ now.order.left → HasCome credit now last) → LeadsOn credit now next last fill) → IsWalk credit next → IsAlong now next
       → Gone book credit weight t next made
   gone-on fill is steps walk along =

@@ -17,6 +17,16 @@ use price_levels::Steps;
 use std::alloc::Global;
 use std::sync::ledger::Ledger;
 
+/// Most markets have at most so many banks, in so many groups of eight. There a sweep begins with so few words.
+const FEW_BANKS: usize = 16;
+
+const FEW_GROUPS: usize = 2;
+
+/// How many banks a market can have, in so many groups of eight.
+const BANKS: usize = BankId::COUNT;
+
+const GROUPS: usize = 8;
+
 /// The sweep of an order that may want more than an order can have, found and not yet carried out.
 #[derive(Debug, Drop)]
 pub struct SweepPlan {
@@ -112,12 +122,16 @@ fn sweep_by_lines<L: Ledger>(
             left: order.left,
         });
     }
-    walk_along(alloc, book, lines, weight, order, steps)
+    if book.banks() <= FEW_BANKS {
+        walk_along::<FEW_BANKS, FEW_GROUPS, L>(alloc, book, lines, weight, order, steps)
+    } else {
+        walk_along::<BANKS, GROUPS, L>(alloc, book, lines, weight, order, steps)
+    }
 }
 
-/// The same, from best order to best order of the other side, with two steps for each fill at most. It stands apart since a function pays
-/// for its tables as it begins.
-fn walk_along<L: Ledger>(
+/// The same, from best order to best order of the other side, with two steps for each fill at most, in a market of at most `N` banks. It
+/// stands apart since a function pays for its tables as it begins.
+fn walk_along<const N: usize, const G: usize, L: Ledger>(
     alloc: Global,
     book: &PairBook,
     lines: &CreditLines,
@@ -127,15 +141,17 @@ fn walk_along<L: Ledger>(
 ) -> Result<SweepPlan, Memory>
     requires banks { book.now.banks ≡ lines.now.banks }
     requires bank { order.now.bank < lines.now.banks }
-    requires few { lines.now.banks ≤ 64 }
+    requires few { lines.now.banks ≤ N }
+    requires most { N ≤ 64 }
+    requires groups { G * 8 ≡ N }
     requires weight { IsWeight weight }
     ensures sweep { IfOk result (λ sweep. IsByLines book.now lines.now weight order.now sweep.fills sweep.left) }
     ensures steps { CameBefore book.now.orders order.now.arrival → IfOk result (λ sweep. steps.new ≤ steps.old + 2 * length sweep.fills) }
 {
-    let mut walk = Walk {
+    let mut walk: Walk<N, G> = Walk {
         order: *order,
-        heads: book.heads(order.side.opposite()),
-        used: [0; BankId::SENDERS],
+        heads: book.heads(order.side.opposite(), order.price),
+        used: [0; N],
         weight,
     };
     let mut fills = Vec::new(alloc);

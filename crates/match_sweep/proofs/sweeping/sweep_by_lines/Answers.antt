@@ -1,7 +1,10 @@
 -- Where the walk begins or none is needed, and how many steps it takes in all.
-use Rattle.std.proofs.Common.{ℕ, Result, Ok, Err, List, ◌≤◌, ◌+◌, ◌*◌, ◌∙◌, sym, subst, arith, length}
+use Rattle.std.proofs.Common.{ℕ, Result, Ok, Err, List, ◌≡◌, ◌≤◌, ◌<◌, ◌+◌, ◌*◌, ◌∙◌, sym, subst, arith, length}
 use Rattle.std.specs.Result.{IfOk}
 use Rattle.fx_rules.specs.declared.orders.Fill.{Fill}
+use Rattle.fx_rules.specs.Sweep.{Taker}
+use Rattle.global_book.specs.Book.{Book, IsBook}
+use Rattle.credit_lines.specs.Credit.{Credit}
 use Rattle.match_sweep.specs.Sweeps.{AddsUp}
 use Rattle.match_sweep.specs.declared.sweeping.SweepPlan.{SweepPlan}
 use Rattle.match_sweep.specs.inside.Walks.{IsByLines}
@@ -17,23 +20,32 @@ if_both : {T E : Type 0} (P Q R : T → Type 0) (r : Result T E) → ((x : T) �
 if_both P Q R (Ok x) both first second = both x first second
 if_both P Q R (Err e) both first second = tt
 
-pub returns-clause-sum : goal.returns-clause-sum
-returns-clause-sum g c =
-    let planned = λ (sweep : SweepPlan). IsByLines c.args.book.now c.args.lines.now c.args.weight c.args.order.now sweep.fills sweep.left in
-    if_both planned planned (AddsUp c.args.order.now) c.walk_along.result
-    (λ sweep is _. sum-whole c.args.book.now c.args.lines.now c.args.weight c.args.order.now sweep.fills sweep.left is) c.walk_along.ensures.sweep c.walk_along.ensures.sweep
+-- what a walk's result comes to, and its steps with the one for all words
+module _ {E : Type 0} (book : Book) (credit : Credit) (weight : ℕ) (t : Taker) (result : Result SweepPlan E) (planned : IfOk result (λ sweep. IsByLines book credit weight t sweep.fills sweep.left)) where
+  abbrev by-lines : SweepPlan → Type 0
+  by-lines sweep = IsByLines book credit weight t sweep.fills sweep.left
 
-pub returns-clause-steps : goal.returns-clause-steps
-returns-clause-steps g c = λ came.
-    let banks : ℕ = c.args.book.now.banks in
-    let new : ℕ = c.walk_along.new.steps in
-    if_both (λ (sweep : SweepPlan). IsByLines c.args.book.now c.args.lines.now c.args.weight c.args.order.now sweep.fills sweep.left)
-    (λ (sweep : SweepPlan). new ≤ c.has_within.new.steps + 2 * length sweep.fills)
-    (λ (sweep : SweepPlan). new ≤ c.args.steps.now + (length sweep.fills + 1) * banks) c.walk_along.result
-    (λ sweep planned steps. omega (
-      arith,
-      steps,
-      c.has_within.ensures.step,
-      bounded c.args.book.now c.args.lines.now c.args.weight c.args.order.now sweep.fills sweep.left c.has_within.ensures.valid (omega (arith, c.requires.bank, c.requires.banks)) planned,
-    ))
-    c.walk_along.ensures.sweep (c.walk_along.ensures.steps came)
+  sums : IfOk result (AddsUp t)
+  sums = if_both by-lines by-lines (AddsUp t) result (λ sweep is _. sum-whole book credit weight t sweep.fills sweep.left is) planned planned
+
+  counts : (first seen last : ℕ) → seen ≡ first + 1 → IsBook book → t.bank < book.banks → IfOk result (λ sweep. last ≤ seen + 2 * length sweep.fills)
+      → IfOk result (λ sweep. last ≤ first + (length sweep.fills + 1) * book.banks)
+  counts first seen last one valid bank steps =
+      if_both by-lines (λ (sweep : SweepPlan). last ≤ seen + 2 * length sweep.fills) (λ (sweep : SweepPlan). last ≤ first + (length sweep.fills + 1) * book.banks) result
+      (λ sweep is upto. omega (arith, upto, one, bounded book credit weight t sweep.fills sweep.left valid bank is)) planned steps
+
+pub returns-then-banks-le-FEW_BANKS-clause-sum : goal.returns-then-banks-le-FEW_BANKS-clause-sum
+returns-then-banks-le-FEW_BANKS-clause-sum g c = sums c.args.book.now c.args.lines.now c.args.weight c.args.order.now c.walk_along.result c.walk_along.ensures.sweep
+
+pub returns-then-banks-le-FEW_BANKS-clause-steps : goal.returns-then-banks-le-FEW_BANKS-clause-steps
+returns-then-banks-le-FEW_BANKS-clause-steps g c = λ came.
+    counts c.args.book.now c.args.lines.now c.args.weight c.args.order.now c.walk_along.result c.walk_along.ensures.sweep c.args.steps.now c.has_within.new.steps c.walk_along.new.steps c.has_within.ensures.step
+    c.has_within.ensures.valid (omega (arith, c.requires.bank, c.requires.banks)) (c.walk_along.ensures.steps came)
+
+pub returns-else-banks-le-FEW_BANKS-clause-sum : goal.returns-else-banks-le-FEW_BANKS-clause-sum
+returns-else-banks-le-FEW_BANKS-clause-sum g c = sums c.args.book.now c.args.lines.now c.args.weight c.args.order.now c.walk_along-else-banks-le-FEW_BANKS.result c.walk_along-else-banks-le-FEW_BANKS.ensures.sweep
+
+pub returns-else-banks-le-FEW_BANKS-clause-steps : goal.returns-else-banks-le-FEW_BANKS-clause-steps
+returns-else-banks-le-FEW_BANKS-clause-steps g c = λ came.
+    counts c.args.book.now c.args.lines.now c.args.weight c.args.order.now c.walk_along-else-banks-le-FEW_BANKS.result c.walk_along-else-banks-le-FEW_BANKS.ensures.sweep c.args.steps.now c.has_within.new.steps c.walk_along-else-banks-le-FEW_BANKS.new.steps c.has_within.ensures.step
+    c.has_within.ensures.valid (omega (arith, c.requires.bank, c.requires.banks)) (c.walk_along-else-banks-le-FEW_BANKS.ensures.steps came)

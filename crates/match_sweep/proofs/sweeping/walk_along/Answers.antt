@@ -11,10 +11,11 @@ use Rattle.match_sweep.proofs.sweeping.walk_along.Goals as goal
 
 pub loop-fill-init : goal.loop-fill-init
 loop-fill-init g c =
-    let begun : IsBegun c.args.book.now (opposite c.args.order.now.side) c.heads.result = subst (λ (s : Side). IsBegun c.args.book.now s c.heads.result) c.opposite.ensures c.heads.ensures.begun in
+    let begun : IsBegun c.args.book.now (opposite c.args.order.now.side) c.args.order.now.price g.row.N c.heads.result =
+    subst (λ (s : Side). IsBegun c.args.book.now s c.args.order.now.price g.row.N c.heads.result) c.opposite.ensures c.heads.ensures.begun in
     record {
-      gone = subst (λ (fills : List Fill). Gone c.args.book.now c.args.lines.now c.args.weight c.args.order.now (first_walk c.args.book.now c.args.lines.now c.args.weight c.args.order.now c.heads.result c.heads.ensures.valid c.requires.banks begun) fills) (sym c.new-fills.ensures.items)
-          (gone-begins c.args.book.now c.args.lines.now c.args.weight c.args.order.now c.heads.result c.heads.ensures.valid c.requires.banks begun c.requires.bank c.requires.weight c.requires.few);
+      gone = subst (λ (fills : List Fill). Gone c.args.book.now c.args.lines.now c.args.weight c.args.order.now (first_walk {n = g.row.N} {g = g.row.G} c.args.book.now c.args.lines.now c.args.weight c.args.order.now c.heads.result c.heads.ensures.valid c.requires.banks begun) fills) (sym c.new-fills.ensures.items)
+          (gone-begins {n = g.row.N} {g = g.row.G} c.args.book.now c.args.lines.now c.args.weight c.args.order.now c.heads.result c.heads.ensures.valid c.requires.banks begun c.requires.bank c.requires.weight c.requires.few);
       steps = λ _. omega arith;
     }
 

@@ -22,10 +22,10 @@ pub returns-clause-none : goal.returns-clause-none
 returns-clause-none g c = λ no.
     subst (λ (b : Book). Each (λ (o : Resting). o.side ≡ c.args.side → crosses (opposite c.args.side) c.args.limit o.price ≡ false) b.orders) c.self.view_is
     (all-dear c.self.inside.banks c.self.inside.linked c.args.side c.self.invariant c.heads-heads.ensures.linked c.heads-heads.result.now c.args.limit c.heads-heads.ensures.heads
-    (least-dear c.self.inside.linked c.args.side c.heads-heads.result.now
+    (least-dear 64 c.self.inside.linked c.args.side c.args.limit c.heads-heads.result.now
     (heads-tell c.self.inside.banks c.self.inside.linked c.args.side c.self.invariant c.heads-heads.ensures.linked c.heads-heads.result.now c.best_within.ensures.count c.heads-heads.ensures.heads)
-    c.args.limit c.rank_of.ensures.price
-    (subst (λ (r : ℕ). (bank : ℕ) → bank < 64 → IfSome (get_or c.heads-heads.result.now bank None) (λ (head : Head). r < head.rank)) c.rank_of.ensures.rank (c.best_within.ensures.none (none-of c.best_within.result (sym c.is_some.ensures ∙ no))))))
+    c.rank_of.ensures.price
+    (subst (λ (r : ℕ). (bank : ℕ) → IfSome (get_or c.heads-heads.result.now bank None) (λ (head : Head). r < head.rank)) c.rank_of.ensures.rank (c.best_within.ensures.none (none-of c.best_within.result (sym c.is_some.ensures ∙ no))))))
 
 some-of : (found : Option ℕ) (P : ℕ → Type 0) (Q : Type 0) → ((bank : ℕ) → P bank → Q) → IfSome found P → is_some found ≡ true → Q
 some-of None P Q step found is = absurd (false≢true is)
@@ -35,9 +35,9 @@ pub returns-clause-some : goal.returns-clause-some
 returns-clause-some g c = λ yes.
     subst (λ (b : Book). RestsWithin c.args.side c.args.limit b.orders) c.self.view_is
     (some-of c.best_within.result (IsBestWithin c.heads-heads.result.now (rank_of c.args.side c.args.limit)) (RestsWithin c.args.side c.args.limit (orders_in c.self.inside.linked))
-    (λ bank. least-rests c.self.inside.linked c.args.side c.heads-heads.result.now
+    (λ bank. least-rests 64 c.self.inside.linked c.args.side c.args.limit c.heads-heads.result.now
     (heads-tell c.self.inside.banks c.self.inside.linked c.args.side c.self.invariant c.heads-heads.ensures.linked c.heads-heads.result.now c.best_within.ensures.count c.heads-heads.ensures.heads)
-    c.args.limit bank c.rank_of.ensures.price)
+    bank c.rank_of.ensures.price)
     (subst (λ (r : ℕ). IfSome c.best_within.result (IsBestWithin c.heads-heads.result.now r)) c.rank_of.ensures.rank c.best_within.ensures.best)
     (sym c.is_some.ensures ∙ yes))
 

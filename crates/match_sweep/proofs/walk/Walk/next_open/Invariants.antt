@@ -3,7 +3,7 @@ use Rattle.fx_rules.specs.declared.orders.Resting.{Resting}
 use Rattle.global_book.specs.Heads.{count_to_come}
 use Rattle.match_sweep.specs.inside.Heads.{CameBefore}
 use Rattle.match_sweep.specs.inside.Walks.{HasCome, IsWalk}
-use Rattle.match_sweep.proofs.walk.Walk.next_maker.Given as goal
+use Rattle.match_sweep.proofs.walk.Walk.next_open.Given as goal
 
 -- the heads that were passed or shut were not open
 abbrev pub invariant-loop-bank : goal.invariant-loop-bank
