@@ -13,6 +13,9 @@ use price_levels::Steps;
 use std::alloc::Global;
 use std::sync::ledger::Ledger;
 
+/// For how many orders a raise has capacity at first, so that its list seldom grows.
+const FEW_LIVE: usize = 32;
+
 /// Of the orders of two banks, whose best prices these are, those that cross the other bank's best price. It reads no other order: a step
 /// for each, and four beside them at most. `Memory` when out of memory.
 #[inline(never)]
@@ -32,7 +35,7 @@ pub(crate) fn live_orders<L: Ledger>(
     ensures steps { IfOk result (λ orders. steps.new ≤ steps.old + 4 + length orders.items) }
     ensures orders { IfOk result (λ orders. IsPermutation (live_turns i j tops_i.now tops_j.now book.now.orders) orders.items) }
 {
-    let mut orders = Vec::new(alloc);
+    let mut orders = Vec::with_capacity(alloc, FEW_LIVE)?;
     gather_live(book, i, tops_i, tops_j, &mut orders, steps)?;
     gather_live(book, j, tops_j, tops_i, &mut orders, steps)?;
     Ok(orders)

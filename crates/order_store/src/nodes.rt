@@ -9,6 +9,10 @@ use std::marker::Model;
 /// How many places a list can have: as many as a word of a best order has bits for.
 const PLACES: usize = 1 << 28;
 
+/// How many orders a list has capacity for from the first one on: so many take 131,072 bytes, for which the allocator maps pages of their own. Such a
+/// list is not copied as it grows, and capacity that was not written to yet takes addresses, and hardly any memory.
+const FIRST: usize = 4_096;
+
 /// The link of an order that has no neighbour on a side.
 const NO_LINK: u32 = u32::MAX;
 
@@ -70,7 +74,7 @@ impl Nodes {
             return room_for(usize::MAX, 1).map(|_| ());
         }
         if self.items.len() == self.items.capacity() {
-            self.items.reserve_exact(self.items.len().max(1))?;
+            self.items.reserve_exact(self.items.len().max(FIRST))?;
         }
         Ok(())
     }

@@ -7,6 +7,9 @@ use fx_amounts::Memory;
 use std::alloc::Global;
 use std::marker::Model;
 
+/// How many entries a row has capacity for from the first one on.
+const FIRST: usize = 16;
+
 /// The number of an order in its bank's stream, and the key that it was kept under.
 #[derive(Clone, Copy, Debug, PartialEq, Eq)]
 pub(crate) struct Numbered {
@@ -82,7 +85,7 @@ impl NumberRow {
         ensures entries { self.new.entries ≡ self.old.entries }
     {
         if self.entries.len() == self.entries.capacity() {
-            self.entries.reserve_exact(self.entries.len().max(1))?;
+            self.entries.reserve_exact(self.entries.len().max(FIRST))?;
         }
         Ok(())
     }

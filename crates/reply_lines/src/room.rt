@@ -4,7 +4,7 @@ use fx_amounts::Memory;
 
 /// The bytes by which a list gets longer than it has to. It has capacity for more, so that it is not moved for each of these steps;
 /// and so few are cleared at once.
-const STEP: usize = 256;
+const STEP: usize = 512;
 
 /// The bytes that a list has capacity for from the first on, and those that it has capacity for next. A list of the second size gets pages of
 /// its own from the allocator, which moves pages and no bytes where it grows further, so that few texts are moved, and those once. Capacity
