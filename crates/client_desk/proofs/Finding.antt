@@ -1,16 +1,16 @@
 -- A client is found by its bank and its name.
-use Rattle.std.proofs.Common.{ℕ, suc, ◌≡◌, ◌+◌, ◌<◌, Bool, false, not, ◌&&◌, ◌||◌, eqb, bytes_eq, nat_lt, cond, List, [], ◌∷◌, ◌++◌, refl, ap, ap₂, sym, subst, ◌∙◌, length, take, drop, get_or, position, replicate, ◌-◌, arith, Some, None}
-use Rattle.std.specs.List.{position_or_len, list_any}
+use Rattle.std.proofs.Common.{ℕ, zero, suc, ◌≡◌, ◌+◌, ◌<◌, Bool, true, false, not, ◌&&◌, ◌||◌, eqb, bytes_eq, nat_lt, cond, List, [], ◌∷◌, ◌++◌, refl, ap, ap₂, sym, subst, ◌∙◌, length, take, drop, get_or, position, replicate, ◌-◌, arith, Some, None}
+use Rattle.std.specs.List.{position_or_len, list_any, slice_get}
 use Rattle.std.specs.Int.{w64, from_le_bytes, to_le_bytes}
 use Rattle.std.specs.Cmp.Lexicographic.{bytes_decides}
 use Rattle.std.specs.Cmp.Derive.{both_true}
-use Rattle.std.proofs.lemmas.Bool.{and_parts, eq-eqb, eqb-true, false_from_ne_true, ltb-true}
+use Rattle.std.proofs.lemmas.Bool.{and_parts, eq-eqb, eqb-true, false_from_ne_true, lt-ltb, ltb-true}
 use Rattle.std.proofs.lemmas.List.{take-append-drop, take_at}
 use Rattle.std.proofs.lemmas.Nat.{from_le_bytes-to_le_bytes_8}
 use Rattle.std.proofs.lemmas.Grind.{take_at_read}
 use Rattle.fx_rules.specs.Lists.{Each, EachPair}
 use Rattle.fx_rules.specs.Names.{padded}
-use Rattle.fx_rules.proofs.ListLemmas.{EachPair-first}
+use Rattle.fx_rules.proofs.ListLemmas.{Each-at, EachPair-first}
 use Rattle.fx_rules.proofs.Sought.{same_test}
 use Rattle.indexmap.specs.IndexSet.{insert_key}
 use Rattle.client_desk.specs.Clients.{Differ}
@@ -75,6 +75,54 @@ pub key_found : (bank : ℕ) (text : List ℕ) (sought : ClientKey) (clients : L
     → position (is_same_key sought) keys ≡ position (λ (client : Client). eqb bank client.bank && bytes_eq text client.name) clients
 key_found bank text sought clients keys mine are =
     ap₂ (λ n len. cond (nat_lt n len) (Some n) None) (first_key bank text sought clients keys mine are) (keys_length clients keys are)
+
+some_key : (a b : ClientKey) → Some a ≡ Some b → a ≡ b
+some_key a b is = cc
+
+-- each key is that of its client
+keys_at : (clients : List Client) (keys : List ClientKey) (at : ℕ) (d : Client) (key : ClientKey) → AreKeysOf clients keys → slice_get keys at ≡ Some key → (at < length clients) × IsKeyOf (get_or clients at d).bank (get_or clients at d).name key
+keys_at [] [] at d key are is = absurd cc
+keys_at [] (k ∷ keys) at d key are is = absurd are
+keys_at (client ∷ clients) [] at d key are is = absurd are
+keys_at (client ∷ clients) (k ∷ keys) zero d key are is = (omega arith, subst (IsKeyOf client.bank client.name) (some_key k key is) are.0)
+keys_at (client ∷ clients) (k ∷ keys) (suc at) d key are is =
+    let rest = keys_at clients keys at d key are.1 is in
+    (omega (arith, rest.0), rest.1)
+
+-- no client before one of that bank and that name is so too
+first_place : (bank : ℕ) (text : List ℕ) (clients : List Client) (at : ℕ) (d : Client) → EachPair Differ clients → at < length clients → (eqb bank (get_or clients at d).bank && bytes_eq text (get_or clients at d).name) ≡ true
+    → position_or_len (λ (client : Client). eqb bank client.bank && bytes_eq text client.name) clients ≡ at
+first_place bank text [] at d differ within passes = absurd (omega arith)
+first_place bank text (client ∷ clients) zero d differ within passes =
+    ap (λ (b : Bool). cond (not b) (1 + position_or_len (λ (client : Client). eqb bank client.bank && bytes_eq text client.name) clients) 0) passes
+first_place bank text (client ∷ clients) (suc at) d differ within passes =
+    let here : at < length clients = omega arith in
+    let its = and_parts (eqb bank (get_or clients at d).bank) (bytes_eq text (get_or clients at d).name) passes in
+    let other : (eqb bank client.bank && bytes_eq text client.name) ≡ false =
+    false_from_ne_true (eqb bank client.bank && bytes_eq text client.name)
+    (λ is.
+    let mine = and_parts (eqb bank client.bank) (bytes_eq text client.name) is in
+    Each-at (Differ client) clients at d differ.0 here
+    (sym (eqb-true bank client.bank mine.0) ∙ eqb-true bank (get_or clients at d).bank its.0)
+    (sym ((bytes_decides text client.name).0 mine.1) ∙ (bytes_decides text (get_or clients at d).name).0 its.1)) in
+    let more : 1 + at ≡ suc at = omega arith in
+    ap₂ (λ (b : Bool) (n : ℕ). cond (not b) (1 + n) 0) other (first_place bank text clients at d differ.1 here passes) ∙ more
+
+alone_in : (bank : ℕ) (text : List ℕ) (sought key : ClientKey) (clients : List Client) (keys : List ClientKey) (at : ℕ) (d : Client) → IsKeyOf bank text sought → AreKeysOf clients keys → EachPair Differ clients → slice_get keys at ≡ Some key → is_same_key sought key ≡ true
+    → Some at ≡ position (λ (client : Client). eqb bank client.bank && bytes_eq text client.name) clients
+alone_in bank text sought key clients keys at d mine are differ is same =
+    let its = keys_at clients keys at d key are is in
+    let passes : (eqb bank (get_or clients at d).bank && bytes_eq text (get_or clients at d).name) ≡ true =
+    sym (same_key bank (get_or clients at d).bank text (get_or clients at d).name sought key mine its.1) ∙ same in
+    sym (ap (λ n. cond (nat_lt n (length clients)) (Some n) None) (first_place bank text clients at d differ its.0 passes)
+    ∙ ap (λ b. cond b (Some at) None) (lt-ltb at (length clients) its.0))
+
+-- the client at whose place the key stands that is sought is the one
+pub key_alone : (bank : ℕ) (text : List ℕ) (sought key : ClientKey) (clients : List Client) (keys : List ClientKey) (at : ℕ) → IsKeyOf bank text sought → AreKeysOf clients keys → EachPair Differ clients → slice_get keys at ≡ Some key → is_same_key sought key ≡ true
+    → Some at ≡ position (λ (client : Client). eqb bank client.bank && bytes_eq text client.name) clients
+key_alone bank text sought key [] [] at mine are differ is same = absurd cc
+key_alone bank text sought key [] (k ∷ keys) at mine are differ is same = absurd are
+key_alone bank text sought key (first ∷ clients) keys at mine are differ is same = alone_in bank text sought key (first ∷ clients) keys at first mine are differ is same
 
 -- a text that is longer than any key's is no client's
 no_first : (bank : ℕ) (text : List ℕ) (clients : List Client) (keys : List ClientKey) → AreKeysOf clients keys → 8 < length text

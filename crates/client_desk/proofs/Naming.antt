@@ -70,7 +70,7 @@ parted text at found =
     subst (IsParted text) here.1 (record { within = inside; none = apart; whole = split })
 
 -- the text of a client that stands among clients
-text_apart : (h : Header) (bank : ℕ) → IsSession h → bank < bank_count h → HasNone (bank_name h bank)
+pub text_apart : (h : Header) (bank : ℕ) → IsSession h → bank < bank_count h → HasNone (bank_name h bank)
 text_apart h bank session within = name_apart (bank_name h bank) (session.names bank [] within)
 
 -- a bank that is named is the only one of its name
@@ -86,7 +86,7 @@ only_named h bank other text session named within is =
       ]
     ]
 
-named_is : (h : Header) (bank : ℕ) (text : List ℕ) → bank_named h.banks text ≡ Some bank → bank_name h bank ≡ text
+pub named_is : (h : Header) (bank : ℕ) (text : List ℕ) → bank_named h.banks text ≡ Some bank → bank_name h bank ≡ text
 named_is h bank text named =
     let found = position-Some (λ name. bytes_eq name text) h.banks bank [] named in
     (bytes_decides (bank_name h bank) text).0 found.1

@@ -106,7 +106,7 @@ pub fn client_line_with(
 }
 
 /// The first field of a declaration.
-pub(crate) const CLIENT: &[u8] = b"CLIENT:";
+const CLIENT: &[u8] = b"CLIENT:";
 
 /// What a declaration says.
 fn declaration(session: &Session, clients: &Clients, fields: &Fields<'_>) -> ClientLine
@@ -151,7 +151,7 @@ fn is_new(clients: &Clients, client: &Client) -> bool
 }
 
 /// The client that a field `bank:name` names. Takes no memory.
-pub(crate) fn client_named(session: &Session, clients: &Clients, field: &[u8]) -> Option<ClientId>
+fn client_named(session: &Session, clients: &Clients, field: &[u8]) -> Option<ClientId>
     requires clients { AreClients session.now clients.now }
     ensures value { result ≡ client_named session.now clients.now field.now }
     ensures within { IfSome result (λ client. client < length clients.now) }

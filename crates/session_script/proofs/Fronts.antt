@@ -13,12 +13,13 @@ use Rattle.order_lines.specs.declared.spoken.Spoken.{Spoken}
 use Rattle.order_lines.specs.declared.spoken.Spoken.TheVariants.{Of}
 use Rattle.session_script.specs.Script.{has_end, sent_among}
 use Rattle.session_script.specs.Stage.{Past, StandsAt, Tells, Hears}
-use Rattle.session_script.specs.inside.Stage.{AddsLines, AddsFront, TakesFront, counted}
+use Rattle.session_script.specs.inside.Stage.{Adds, AddsLines, AddsFront, TakesFront, counted}
 use Rattle.session_script.specs.Journal.{sent_lines}
 use Rattle.session_script.specs.declared.script.Keeps.TheVariants.{Journal, Strays}
 use Rattle.session_script.specs.declared.script.Script.{Script}
 use Rattle.session_script.specs.declared.intake.stage.Stage.{Stage}
 use Rattle.session_script.specs.declared.intake.stage.Stage.TheVariants.{Commanding}
+use Rattle.session_script.proofs.Hearing.{Hears-line}
 use Rattle.session_script.proofs.Journaling.{lines_more, spelled_on}
 use Rattle.session_script.proofs.Taking.{Tells-line}
 
@@ -74,7 +75,7 @@ AddsFront-lines old new sent text rest front adds commands same strays kept neve
       subst (λ (h : Header). Tells (lines ++ adds.done) h (former ++ new.sent.items) new.strays false) (sym same)
       (subst (λ (all : List Sent). Tells (lines ++ adds.done) old.session (former ++ all) new.strays false) (sym commands)
       (subst (λ (n : ℕ). Tells (lines ++ adds.done) old.session (former ++ sent) n false) (sym strays) (adds.tells lines former old.strays tells)));
-  hears = λ lines former hears.
+  hears = λ lines former tells hears.
       let none : former.keeps ≡ Strays → ⊥ = λ on. never (hears.keeps ∙ on) in
       let added : old.keeps ≡ Journal → new.journal.items ≡ old.journal.items ++ sent_lines old.session adds.more =
       λ on. written on ∙ ap (λ (all : List ℕ). old.journal.items ++ all) (front_is ∙ before_rest text (sent_lines old.session adds.more) rest adds.spelled) in
@@ -97,8 +98,30 @@ AddsFront-none script text = record {
   shorter = omega arith;
   session = refl;
   tells = λ lines former tells. subst (λ (all : List Line). Tells all script.session (former ++ script.sent.items) script.strays false) (sym (append-nil lines)) tells;
-  hears = λ lines former hears. subst (λ (all : List Line). Hears all former script) (sym (append-nil lines)) hears;
+  hears = λ lines former tells hears. subst (λ (all : List Line). Hears all former script) (sym (append-nil lines)) hears;
 }
+
+-- a line more was added to a script
+pub AddsFront-line : (first old new : Script) (text rest behind : List ℕ) (line : Line) (said : Spoken) → AddsFront first old text rest → IsFirstLine rest line behind → length behind < length rest → command_line first.session line ≡ said → Adds old new line said false
+    → AddsFront first new text behind
+AddsFront-line first old new text rest behind line said adds starts less says more =
+    let is : said ≡ command_line old.session line = sym says ∙ ap (λ (h : Header). command_line h line) (sym adds.session) in
+    let added : Adds old new line (command_line old.session line) false = subst (λ (spoken : Spoken). Adds old new line spoken false) is more in
+    record {
+      done = adds.done ++ line ∷ [];
+      lines = adds.lines ∙ ap (λ (all : List Line). adds.done ++ all) starts.lines ∙ sym (append_assoc adds.done (line ∷ []) (lines_of behind));
+      behind = adds.behind ∙ starts.rest;
+      shorter = omega (arith, adds.shorter);
+      session = added.session ∙ adds.session;
+      tells = λ lines former tells.
+          subst (λ (whole : List Line). Tells whole new.session (former ++ new.sent.items) new.strays false) (append_assoc lines adds.done (line ∷ []))
+          (Tells-line (lines ++ adds.done) line old.session new.session (former ++ old.sent.items) (former ++ new.sent.items) old.strays new.strays false (adds.tells lines former tells) added.session
+          (ap (λ (list : List Sent). former ++ list) added.sent ∙ sym (append_assoc former old.sent.items (sent_among (command_line old.session line ∷ []))))
+          added.strays added.ended added.valid);
+      hears = λ lines former tells hears.
+          subst (λ (whole : List Line). Hears whole former new) (append_assoc lines adds.done (line ∷ []))
+          (Hears-line (lines ++ adds.done) line former old new (former.sent ++ old.sent.items) old.strays false (adds.tells lines former.sent tells) (adds.hears lines former tells hears) added);
+    }
 
 pub TakesFront-script : (stage : Stage) (old new : Script) (ended : Bool) (text rest : List ℕ) → stage ≡ Commanding old ended → ended ≡ false → AddsFront old new text rest
     → TakesFront stage (Commanding new ended) text rest
@@ -111,7 +134,7 @@ TakesFront-script stage old new ended text rest is goes adds = record {
       let before : StandsAt (Commanding old ended) lines former = subst (λ (s : Stage). StandsAt s lines former) is at in (
         subst (λ (e : Bool). Tells (lines ++ adds.done) new.session (former.sent ++ new.sent.items) new.strays e) (sym goes)
             (adds.tells lines former.sent (subst (λ (e : Bool). Tells lines old.session (former.sent ++ old.sent.items) old.strays e) goes before.0)),
-        adds.hears lines former before.1,
+        adds.hears lines former (subst (λ (e : Bool). Tells lines old.session (former.sent ++ old.sent.items) old.strays e) goes before.0) before.1,
       );
 }
 

@@ -1,6 +1,6 @@
 ghost use Rattle.std.specs.Prelude.{◌≡◌, ◌<◌, ◌==◌, ◌||◌, IsTrue, IfSome, length, position};
 ghost use Rattle.fx_text.specs.Fields.{is_blank};
-ghost use Rattle.fx_text.specs.Lines.{line_seen};
+ghost use Rattle.fx_text.specs.Lines.{IsFirstLine, line_seen};
 ghost use Rattle.fx_text.specs.declared.line.Line.TheVariants.{Whole as WholeLine};
 ghost use Rattle.fx_rules.specs.Session.{Header, IsSession};
 ghost use Rattle.fx_rules.specs.Step.{IsCommand};
@@ -8,7 +8,7 @@ ghost use Rattle.order_lines.specs.Grammar.{IfSent, command_line};
 ghost use Rattle.order_lines.specs.declared.spoken.Spoken.TheVariants.{Stray as StraySpoken};
 
 use fx_rules::Session;
-use fx_text::LineView;
+use fx_text::{LineView, first_line};
 use order_lines::{Spoken, command_in};
 
 /// What a line behind START says, as `command_in` reads it. One whose first field has a colon is a stray, since no sender's name has
@@ -42,4 +42,18 @@ fn place_of_colon(text: &[u8]) -> Option<usize>
 {
     text.iter()
         .position(|byte| *byte == b':' || *byte == b' ' || *byte == b'\t')
+}
+
+/// The line that a text begins with, where it is a stray for the colon of its first field, and what stands behind its line feed.
+/// `None` where the text begins otherwise; its first line may be a stray then too. Takes no memory.
+pub(crate) fn colon_line(text: &[u8]) -> Option<(LineView<'_>, &[u8])>
+    ensures line { IfSome result (λ found. IsFirstLine text.now (line_seen found.0) found.1.now) }
+    ensures stray { IfSome result (λ found. (h : Header) → IsSession h → command_line h (line_seen found.0) ≡ StraySpoken) }
+    ensures shorter { IfSome result (λ found. length found.1.now < length text.now) }
+{
+    let (line, behind) = first_line(text)?;
+    match line {
+        LineView::Whole(whole) if has_colon(whole) => Some((line, behind)),
+        _ => None,
+    }
 }

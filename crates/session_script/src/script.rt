@@ -1,13 +1,14 @@
-ghost use Rattle.std.specs.Prelude.{◌≡◌, ◌≢◌, [], ◌∷◌, ◌++◌, IfOk, OnOk};
+ghost use Rattle.std.specs.Prelude.{◌≡◌, ◌≢◌, false, [], ◌∷◌, ◌++◌, IfOk, OnOk};
 ghost use Rattle.std.specs.Bool.{MatchBool};
 ghost use Rattle.fx_rules.specs.Sending.{IsSentOf};
 ghost use Rattle.fx_text.specs.Lines.{line_seen};
 ghost use Rattle.order_lines.specs.Grammar.{command_line};
+ghost use Rattle.order_lines.specs.declared.spoken.Spoken.TheVariants.{Stray as StraySpoken};
 ghost use Rattle.session_script.specs.Journal.{sent_lines};
 ghost use Rattle.session_script.specs.Heard.Heard.{Command as HeardCommand, Stray as HeardStray};
 ghost use Rattle.session_script.specs.declared.script.Keeps.TheVariants.{Journal, Strays};
 
-use crate::aside::spoken_of;
+use crate::aside::{colon_line, spoken_of};
 use crate::front::{front_of, push_spelled};
 use crate::heard::HeardLines;
 use fx_amounts::{BankId, Memory};
@@ -90,10 +91,7 @@ impl Script {
                 self.write_command(bank, &command)?;
                 self.sent.push(Sent { bank, command })?;
             }
-            Spoken::Stray => {
-                self.strays = self.strays.saturating_add(1);
-                self.hear_stray(line)?;
-            }
+            Spoken::Stray => self.add_stray(line)?,
             Spoken::Passed => {}
             Spoken::End => return Ok(true),
         }
@@ -128,6 +126,15 @@ impl Script {
         Ok(())
     }
 
+    /// Adds a stray. After `Err` it may be counted and is not heard.
+    fn add_stray(&mut self, line: &LineView<'_>) -> Result<(), Memory>
+        ensures adds { OnOk result (Adds self.old self.new (line_seen line.now) StraySpoken false) }
+        ensures session { self.new.session ≡ self.old.session }
+    {
+        self.strays = self.strays.saturating_add(1);
+        self.hear_stray(line)
+    }
+
     /// Hears a command, where strays are kept. After `Err` it is not heard.
     fn hear_command(&mut self, bank: BankId, command: &Command) -> Result<(), Memory>
         ensures as_before { SaysAsBefore self.old self.new }
@@ -152,15 +159,31 @@ impl Script {
         Ok(())
     }
 
+    /// Hears the strays with whose lines a text begins, as long as each is told by the colon of its first field, and answers what
+    /// stands behind these lines. After `Err` some of them may be heard.
+    fn hear_strays<'p>(&mut self, text: &'p [u8]) -> Result<&'p [u8], Memory>
+        ensures adds { IfOk result (λ rest. AddsFront self.old self.new text.now rest.now) }
+        ensures session { self.new.session ≡ self.old.session }
+    {
+        // What such a line says rests on a valid session, as each is.
+        let _banks = self.session.banks();
+        let mut rest = text;
+        while let Some((line, behind)) = colon_line(rest) {
+            self.add_stray(&line)?;
+            rest = behind;
+        }
+        Ok(rest)
+    }
+
     /// Adds the commands with whose lines in their one spelling a text begins, and answers what stands behind these lines. Where
-    /// strays are kept it adds none: each line is taken by itself then. After `Err` they may be added in part.
+    /// strays are kept it hears those with which the text begins instead. After `Err` they may be added or heard in part.
     #[inline(always)]
     pub(crate) fn add_spelled<'p>(&mut self, text: &'p [u8]) -> Result<&'p [u8], Memory>
         ensures adds { IfOk result (λ rest. AddsFront self.old self.new text.now rest.now) }
         ensures session { self.new.session ≡ self.old.session }
     {
         if self.keeps_strays() {
-            return Ok(text);
+            return self.hear_strays(text);
         }
         let rest = push_spelled(&self.session, text, &mut self.sent)?;
         self.write_lines(front_of(text, rest))?;

@@ -69,7 +69,7 @@ pub record AddsFront (old new : Script) (text rest : List ℕ) : Type 0 where
   pub session : new.session ≡ old.session
   pub tells : (lines : List Line) (former : List Sent) → Tells lines old.session (former ++ old.sent.items) old.strays false
       → Tells (lines ++ done) new.session (former ++ new.sent.items) new.strays false
-  pub hears : (lines : List Line) (former : Past) → Hears lines former old → Hears (lines ++ done) former new
+  pub hears : (lines : List Line) (former : Past) → Tells lines old.session (former.sent ++ old.sent.items) old.strays false → Hears lines former old → Hears (lines ++ done) former new
 
 -- the first lines of a text were taken; this is what stands behind them
 pub record TakesFront (old new : Stage) (text rest : List ℕ) : Type 0 where

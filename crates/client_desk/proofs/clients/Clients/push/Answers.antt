@@ -23,6 +23,9 @@ invariant_of-self-2 c =
     c.push_reserved.ensures.items ∙ ap (λ (all : List Client). all ++ client ∷ []) c.in_ok-reserve.ensures.items in
     let made : IsKeyOf client.bank c.as_bytes.result.now key = subst (λ (found : Option ClientKey). IfSome found (IsKeyOf client.bank c.as_bytes.result.now)) c.unwrap-key.ensures c.of.ensures.key in
     let its : IsKeyOf client.bank client.name key = subst (λ (text : List _). IsKeyOf client.bank text key) c.as_bytes.ensures.text made in
-    subst (λ (all : List Client). AreKeysOf all c.insert.new.self.keys) (sym items)
-    (subst (AreKeysOf (clients ++ client ∷ [])) (sym c.in_ok-insert.ensures.keys)
-    (keys-push clients keys client key c.self.invariant (subst (λ (all : List Client). EachPair Differ (all ++ client ∷ [])) (sym c.self.view_is) c.requires.differ) its))
+    let differ : EachPair Differ (clients ++ client ∷ []) = subst (λ (all : List Client). EachPair Differ (all ++ client ∷ [])) (sym c.self.view_is) c.requires.differ in (
+      subst (λ (all : List Client). AreKeysOf all c.insert.new.self.keys) (sym items)
+          (subst (AreKeysOf (clients ++ client ∷ [])) (sym c.in_ok-insert.ensures.keys)
+          (keys-push clients keys client key c.self.invariant.0 differ its)),
+      subst (EachPair Differ) (sym items) differ,
+    )

@@ -1,4 +1,4 @@
-use Rattle.session_script.proofs.Fronts.{AddsFront-lines, AddsFront-none}
+use Rattle.session_script.proofs.Fronts.{AddsFront-lines}
 use Rattle.session_script.proofs.script.Script.add_spelled.Goals as goal
 
 pub returns-clause-adds : goal.returns-clause-adds
@@ -6,6 +6,3 @@ returns-clause-adds c =
     let wrote = c.write_lines.ensures.as_before in
     AddsFront-lines c.args.self.now c.write_lines.new.self c.push_spelled.new.sent.items c.args.text.now c.in_ok-rest.rest.now c.front_of.result.now c.in_ok-rest.ensures.adds
     wrote.sent wrote.session wrote.strays wrote.keeps c.if-keeps_strays.ensures c.front_of.ensures.front c.in_ok-write_lines.ensures.journal
-
-pub returns-then-keeps_strays-clause-adds : goal.returns-then-keeps_strays-clause-adds
-returns-then-keeps_strays-clause-adds c = AddsFront-none c.args.self.now c.args.text.now
